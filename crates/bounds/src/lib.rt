@@ -1,0 +1,2 @@
+// Lower and upper bounds.
+pub mod bound;
