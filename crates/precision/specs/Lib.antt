@@ -1,2 +1,2 @@
 pub mod Claims
-pub mod Bounds
+pub mod Texts

@@ -1,3 +1,3 @@
-// Claims, exact or inexact or absent, and what it is to be a bound.
+// Claims, exact or inexact or absent.
+pub mod parse;
 pub mod precision;
-pub mod stat_bound;

@@ -6,23 +6,16 @@ ghost use lib.Chars.{codes};
 ghost use Rattle.std.specs.declared.option.Option.the-variants.{Some, None};
 ghost use Rattle.std.specs.Written.{then};
 ghost use Rattle.precision.specs.declared.precision.Precision.the-variants.{Absent};
-ghost use Rattle.order.specs.Order.{lesser};
-ghost use Rattle.precision.specs.Bounds.{PrecisionAllows, precision-union, precision-intersection};
 ghost use Rattle.precision.specs.Claims.{inexactly, mapped, value-of, exact-of, inexact-of, is-exact, is-absent, zipped, transposed, Made, Equals, text-of};
-use crate::stat_bound::IntersectionResult;
-use crate::stat_bound::StatBound;
-use order::ordered::Ordered;
-use order::partial_ord::partial_min;
 use std::fmt;
 
-#[derive(Clone, Copy, PartialEq, Eq, Debug)]
+#[derive(Debug, PartialEq, Eq, Clone, Copy)]
 pub enum Precision<T> {
     Exact(T),
     Inexact(T),
     Absent,
 }
 
-// Absent is the default.
 pub impl<T> Default for Precision<T> as PrecisionDefault {
     ghost isDefault = { λ c. c ≡ Absent };
 
@@ -84,8 +77,8 @@ impl<T> Precision<T> {
         ensures { λ r. ⌜ mapped now r ≡ now (self .entry) ⌝ }
     {
         match self {
-            Precision::Exact(val) => Precision::Exact(val),
-            Precision::Inexact(val) => Precision::Inexact(val),
+            Precision::Exact(lent) => Precision::Exact(lent),
+            Precision::Inexact(lent) => Precision::Inexact(lent),
             Precision::Absent => Precision::Absent,
         }
     }
@@ -155,11 +148,13 @@ impl<T> Precision<T> {
 
     // The value, exact or not.
     pub fn into_inner(self) -> Option<T>
+    where
+        T: Drop,
         ensures { λ r. ⌜ r ≡ value-of self ⌝ }
     {
         match self {
-            Precision::Exact(val) => Some(val),
-            Precision::Inexact(val) => Some(val),
+            Precision::Exact(inner) => Some(inner),
+            Precision::Inexact(inner) => Some(inner),
             Precision::Absent => None,
         }
     }
@@ -187,64 +182,5 @@ pub impl<T: PartialEq<T>> PartialEq<T> for Precision<T> as PrecisionPartialEqVal
             Precision::Exact(v) => v == other,
             _ => false,
         }
-    }
-}
-
-// A claim as a bound of its own: exact only its value, inexact every value.
-pub impl<T: Ordered> StatBound<T> for Precision<T> as PrecisionStatBound {
-    ghost claim = { λ c. c };
-
-    ghost lifted = { λ c. c };
-
-    ghost allows = { PrecisionAllows };
-
-    ghost picked = { lesser (T·Ordered .order) };
-
-    ghost united = { precision-union (T·Ordered .order) };
-
-    ghost met = { precision-intersection (T·Ordered .order) };
-
-    fn lift(value: Precision<T>) -> Self
-        ensures { λ r. ⌜ r ≡ value ⌝ }
-    {
-        value
-    }
-
-    fn into_value(self) -> Precision<T>
-        ensures { λ r. ⌜ r ≡ self ⌝ }
-    {
-        self
-    }
-
-    fn to_exact(&self) -> Option<&T> {
-        match self {
-            Precision::Exact(val) => Some(val),
-            _ => None,
-        }
-    }
-
-    fn union(&self, other: &Self) -> Option<Self> {
-        match self.zip(*other) {
-            Precision::Exact((lhs, rhs)) => Some(Precision::Exact(partial_min(lhs, rhs)?)),
-            Precision::Inexact((lhs, rhs)) => Some(Precision::Inexact(partial_min(lhs, rhs)?)),
-            Precision::Absent => None,
-        }
-    }
-
-    // An exact claim stays exact, whatever the inexact one is.
-    fn intersection(&self, other: &Self) -> Option<IntersectionResult<Self>> {
-        Some(match (*self, *other) {
-            (Precision::Exact(lhs), Precision::Exact(rhs)) => {
-                if lhs.compare(rhs).is_eq() {
-                    IntersectionResult::Value(Precision::Exact(lhs))
-                } else {
-                    IntersectionResult::Empty
-                }
-            }
-            (Precision::Exact(exact), Precision::Inexact(_)) => IntersectionResult::Value(Precision::Exact(exact)),
-            (Precision::Inexact(_), Precision::Exact(exact)) => IntersectionResult::Value(Precision::Exact(exact)),
-            (Precision::Inexact(lhs), Precision::Inexact(rhs)) => IntersectionResult::Value(Precision::Inexact(partial_min(lhs, rhs)?)),
-            _ => IntersectionResult::Empty,
-        })
     }
 }

@@ -1,2 +1,0 @@
-// Lower and upper bounds.
-pub mod bound;
