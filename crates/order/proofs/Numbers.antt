@@ -1,7 +1,7 @@
 -- The orders of flags and of whole numbers have the laws of an order.
 use mathlib.Core.Path.{_≡_, refl, ap}
 use mathlib.Core.Bool.{Bool, true, false}
-use Prim.Native.Nat.{ℕ}
+use Prim.Native.Nat.{ℕ, _≤_}
 use lib.IntN.{ℤ}
 use native.Mathlib.Omega.{arith}
 use Rattle.std.proofs.shelf.Ways.{tells}
@@ -9,7 +9,7 @@ use Rattle.std.proofs.shelf.Signed.{ints}
 use Rattle.std.proofs.shelf.Tests.{true≢false}
 use Rattle.std.specs.declared.cmp.Ordering.the-variants.{Less, Equal}
 use Rattle.std.specs.Orderings.{reversed, isLt, isGt}
-use Rattle.order.specs.Order.{OrderLaws, flag-order, count-order, integer-order}
+use Rattle.order.specs.Order.{OrderLaws, above, flag-order, count-order, integer-order}
 
 flags-same : (x y : Bool) → flag-order x y ≡ Equal → x ≡ y
 flags-same false false e = refl
@@ -54,3 +54,7 @@ integers-ordered =
       both-ways = λ x y. grind (arith, ints, tells);
       through = λ x y z e f. grind (arith, ints, tells);
     }
+
+-- a count that is at most another is not above it
+pub not-above : (m n : ℕ) → m ≤ n → above count-order m n ≡ false
+not-above m n h = grind (arith, tells)

@@ -1,0 +1,16 @@
+pub mod Lists
+pub mod Claims
+pub mod Sets
+pub mod Telling
+pub mod Best
+pub mod Joins
+pub mod Totals
+pub mod Rules
+pub mod Leaves
+pub mod Merges
+pub mod Meeting
+pub mod Combining
+pub mod Convicting
+pub mod Taking
+pub mod Counted
+pub mod Counting

@@ -1,0 +1,3 @@
+// What the rules speak of: elements and their sums, values of statistics, statements, and who tells them.
+pub mod element;
+pub mod statement;
