@@ -83,3 +83,9 @@ abbrev pub settable : {V S : Type 0} → Bool → Stat → Claim V S → Bool
 settable has-sums s (Exact v) = takes has-sums s v
 settable has-sums s (Inexact v) = takes has-sums s v
 settable has-sums s Absent = false
+
+-- whether `set` takes the claim: one with a value of the statistic's kind, or an absent one, which clears
+abbrev pub may-set : {V S : Type 0} → Bool → Stat → Claim V S → Bool
+may-set has-sums s (Exact v) = takes has-sums s v
+may-set has-sums s (Inexact v) = takes has-sums s v
+may-set has-sums s Absent = true
