@@ -64,9 +64,11 @@ distinct-added (t ∷ ss) s d h =
     apart : (a b : Bool) → cond a true b ≡ false → (a ≡ false) × (b ≡ false)
     apart true b e = absurd (true≢false e)
     apart false b e = (refl, e)
+
     still : (a b : Bool) → a ≡ false → b ≡ false → cond a true b ≡ false
     still true b e f = e
     still false b e f = f
+
     turned : (x y : Stat) → same-stat x y ≡ false → same-stat y x ≡ false
     turned x y e = either (same-stat y x) refl
       where
@@ -118,6 +120,7 @@ room-for ss s d h = go s (times-none ss s h)
   where
     once : (t : Stat) → times t ss ≤ 1
     once t = times-once ss t d
+
     go : (t : Stat) → times t ss ≡ 0 → length ss < 9
     go IsConstant e = omega (arith, length-times ss, e, once IsSorted, once IsStrictSorted, once Max, once Min, once Total, once NullCount, once UncompressedSizeInBytes, once NaNCount)
     go IsSorted e = omega (arith, length-times ss, e, once IsConstant, once IsStrictSorted, once Max, once Min, once Total, once NullCount, once UncompressedSizeInBytes, once NaNCount)

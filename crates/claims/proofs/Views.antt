@@ -151,6 +151,7 @@ module _ {V S : Type 0} (sums : Bool) (c : Claims V S) (ss : List Stat) (tied : 
             either : (b : Bool) → same-stat t s ≡ b → same-stat t s ≡ false
             either true p = absurd (true≢false (sym (ap (λ r. same-stat s r) (same-stat-is t s p) ∙ stat-itself s) ∙ e))
             either false p = p
+
         go : (a : Bool) → is-absent (claim-in c s) ≡ a → (b : Bool) → same-stat s t ≡ b → has-stat (cond a (ss ++ (s ∷ [])) ss) t ≡ not (is-absent (cond b x (claim-in c t)))
         go true e true f = has-added ss s t ∙ ap (λ b. cond b true (has-stat ss t)) (turned true f) ∙ sym (ap not there)
         go true e false f = has-added ss s t ∙ ap (λ b. cond b true (has-stat ss t)) (turned false f) ∙ tied .1 t
@@ -170,12 +171,16 @@ module _ {V S : Type 0} (sums : Bool) (c : Claims V S) (ss : List Stat) (tied : 
       where
         as-there : put (entries-of c shown) s x ≡ cond (has (entries-of c shown) s) (replaced (entries-of c shown) s x) (entries-of c shown ++ (stated s x ∷ []))
         as-there = cond-false (is-absent x) (without (entries-of c shown) s) _ there
+
         as-added : is-absent (claim-in c s) ≡ true → put (entries-of c shown) s x ≡ entries-of c shown ++ (stated s x ∷ [])
         as-added a = as-there ∙ cond-false (has (entries-of c shown) s) _ _ (has-told ∙ ap not a)
+
         as-replaced : is-absent (claim-in c s) ≡ false → put (entries-of c shown) s x ≡ replaced (entries-of c shown) s x
         as-replaced a = as-there ∙ cond-true (has (entries-of c shown) s) _ _ (has-told ∙ ap not a)
+
         last-told : claim-in written s ≡ x
         last-told = told s ∙ ap (λ b. cond b x (claim-in c s)) (stat-itself s)
+
         added : is-absent (claim-in c s) ≡ true → entries-of written (kept-by (counts sums) (ss ++ (s ∷ []))) ≡ entries-of c shown ++ (stated s x ∷ [])
         added a =
             ap (entries-of written) (kept-by-append (counts sums) ss (s ∷ []) ∙ ap (λ l. shown ++ l) (cond-true (counts sums s) (s ∷ []) [] counted))
@@ -275,6 +280,7 @@ shown-whole {S = S} sums c ss tied (inr a) = sym (kept-whole (counts sums) ss (�
   where
     sum-gone : is-absent (claim-in c Total) ≡ true
     sum-gone = mapped-gone Sum (c .sum) a
+
     other : (s : Stat) → not (is-absent (claim-in c s)) ≡ true → counts sums s ≡ true
     other s h = go (same-stat s Total) refl sums
       where

@@ -138,7 +138,6 @@ impl<T: Copy> Listing<T> {
             self.len = at + 1;
         }
     }
-
 }
 
 impl Listing<Stat> {

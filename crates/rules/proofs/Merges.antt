@@ -125,7 +125,7 @@ module _ (V S : Type 0) (has-sums : Bool) where
   sum-settable f None None e = λ a. absurd (true≢false a)
 
 module _ {V S : Type 0} (k : Column V S) (in-order : Bool) (x y : Entries V S) where
-  rule-taken : AllSettable (k .sums .has-sums) x → (s : Stat) → Taken (k .sums .has-sums) s (rule k in-order x y s)
+  pub rule-taken : AllSettable (k .sums .has-sums) x → (s : Stat) → Taken (k .sums .has-sums) s (rule k in-order x y s)
   rule-taken settable IsConstant = kind-settable (k .sums .has-sums) IsConstant Flag (λ v. refl) _
   rule-taken settable IsSorted = flag-taken V S (k .sums .has-sums) IsSorted (λ v. refl) in-order _
   rule-taken settable IsStrictSorted = flag-taken V S (k .sums .has-sums) IsStrictSorted (λ v. refl) in-order _

@@ -165,10 +165,16 @@ fn is_kind<E: Element>(stat: Stat, value: StatValue<E, E::Sum>) -> bool
     ensures { λ r. ⌜ r ≡ takes (E·Element .sums .has-sums) stat value ⌝ }
 {
     match stat {
-        Stat::IsConstant | Stat::IsSorted | Stat::IsStrictSorted => matches!(value, StatValue::Flag(_)),
+        Stat::IsConstant | Stat::IsSorted | Stat::IsStrictSorted => matches!(
+            value,
+            StatValue::Flag(_)
+        ),
         Stat::Max | Stat::Min => matches!(value, StatValue::Element(_)),
         Stat::Sum => E::sums() && matches!(value, StatValue::Sum(_)),
-        Stat::NullCount | Stat::UncompressedSizeInBytes | Stat::NaNCount => matches!(value, StatValue::Count(_)),
+        Stat::NullCount | Stat::UncompressedSizeInBytes | Stat::NaNCount => matches!(
+            value,
+            StatValue::Count(_)
+        ),
     }
 }
 

@@ -23,8 +23,8 @@ loop-i-again c =
     let read : getD (listed self) i x ≡ x = listed-at self i x within ∙ sym (c .at-stat .ensures) in
     let mark : marked x ≡ c .at .result = sym (c .at .ensures ∙ ap (nth-nine (c .args .keep .now)) (c .number .ensures)) in
     elim (c .if-at .came) [
-      then-at w ↦ ap listed (w .chosen-is) ∙ pushed-kept marked (listed self) (listed-few self) i within x read (listed (c .loop-i .chosen)) (c .loop-i .inv) _ (mark ∙ w .if-at .taken) (w .push .ensures)
-    | else-at w ↦ ap listed (w .chosen-is) ∙ passed-over marked (listed self) (listed-few self) i within x read (listed (c .loop-i .chosen)) (c .loop-i .inv) (mark ∙ w .if-at .left)
+      | then-at w ↦ ap listed (w .chosen-is) ∙ pushed-kept marked (listed self) (listed-few self) i within x read (listed (c .loop-i .chosen)) (c .loop-i .inv) _ (mark ∙ w .if-at .taken) (w .push .ensures)
+      | else-at w ↦ ap listed (w .chosen-is) ∙ passed-over marked (listed self) (listed-few self) i within x read (listed (c .loop-i .chosen)) (c .loop-i .inv) (mark ∙ w .if-at .left)
     ]
 
 pub returns : need.returns

@@ -10,6 +10,6 @@ returns-else-not-sums g c =
     let s = c .args .self .now in
     shown-whole (g .E·Element .sums .has-sums) (s .claims) (listed (s .order)) (s .once, s .present)
     (elim (c .else-not-sums .came) [
-      else-not-sums·by·then-not-sums·else-not-is-absent w ↦ inr (sym (w .is-absent .ensures) ∙ w .if-not-is-absent .left)
-    | else-not-sums·by·else-not-sums w ↦ inl (sym (c .sums .ensures) ∙ w .if-not-sums .left)
+      | else-not-sums·by·then-not-sums·else-not-is-absent w ↦ inr (sym (w .is-absent .ensures) ∙ w .if-not-is-absent .left)
+      | else-not-sums·by·else-not-sums w ↦ inl (sym (c .sums .ensures) ∙ w .if-not-sums .left)
     ])
