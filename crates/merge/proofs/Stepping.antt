@@ -2,7 +2,6 @@
 use mathlib.Core.Path.{_≡_, refl, sym, ap, subst, _∙_}
 use mathlib.Core.Bool.{Bool, true, false, cond}
 use Rattle.std.proofs.shelf.Tests.{cond-true}
-use Rattle.precision.specs.declared.precision.Precision.the-variants.{Exact, Inexact, Absent}
 use Rattle.stat.specs.declared.Stat.{Stat}
 use Rattle.stat.specs.declared.Stat.the-variants.{IsConstant, IsSorted, IsStrictSorted, Max, Min, Sum as Total, NullCount, UncompressedSizeInBytes, NaNCount}
 use Rattle.rules.specs.Claims.{Claim, may-set}
@@ -13,13 +12,6 @@ use Rattle.rules.specs.Sets.{Entries, put, AllSettable}
 use Rattle.rules.specs.Merging.{rule, merged}
 use Rattle.rules.proofs.Merges.{merged-true}
 use Rattle.merge.specs.Merged.{Merges}
-use Rattle.rules.proofs.Leaves.{Taken}
-
--- what a rule gives may be set
-pub may-taken : {V S : Type 0} (sums : Bool) (s : Stat) (x : Claim V S) → Taken sums s x → may-set sums s x ≡ true
-may-taken sums s (Exact v) t = t refl
-may-taken sums s (Inexact v) t = t refl
-may-taken sums s Absent t = refl
 
 -- a claim that may be set was put in
 pub set-done : {V S : Type 0} (sums : Bool) (s : Stat) (es fs : Entries V S) (x y : Claim V S) → x ≡ y → may-set sums s y ≡ true → fs ≡ cond (may-set sums s x) (put es s x) es → fs ≡ put es s y

@@ -11,11 +11,11 @@ use Rattle.std.proofs.shelf.Tests.{true≢false, cond-both, and-from}
 use Rattle.stat.specs.declared.Stat.{Stat}
 use Rattle.stat.specs.declared.Stat.the-variants.{IsConstant, IsSorted, IsStrictSorted, Max, Min, Sum as Total, NullCount, UncompressedSizeInBytes, NaNCount}
 use Rattle.precision.specs.declared.precision.Precision.{Precision}
-use Rattle.precision.specs.declared.precision.Precision.the-variants.{Absent}
+use Rattle.precision.specs.declared.precision.Precision.the-variants.{Absent, Exact, Inexact}
 use Rattle.rules.specs.declared.statement.StatValue.the-variants.{Flag, Element, Sum, Count}
 use Rattle.rules.specs.Column.{Column, ColumnLaws}
 use Rattle.rules.specs.Rows.{Row, In, here, later, Every, nulls}
-use Rattle.rules.specs.Claims.{Claim, takes, settable, sum-claim}
+use Rattle.rules.specs.Claims.{Claim, takes, settable, sum-claim, may-set}
 use Rattle.stat.specs.Stats.{same-stat, all-stats}
 use Rattle.precision.specs.Claims.{mapped, exact-of}
 use Rattle.rules.specs.Truth.{ClaimHolds, Holds, AllHold}
@@ -86,6 +86,15 @@ pub got-taken : {V S : Type 0} (has-sums : Bool) (es : Entries V S) → AllSetta
 got-taken has-sums es h s =
     got-every (Taken has-sums) (λ r a. absurd (true≢false a)) es
     (all-weaker (λ e. settable has-sums (e .stat) (e .claim) ≡ true) (λ e. Taken has-sums (e .stat) (e .claim)) (λ e t a. t) es h) s
+
+-- what is there, or comes of a rule, may be set
+pub may-taken : {V S : Type 0} (sums : Bool) (s : Stat) (x : Claim V S) → Taken sums s x → may-set sums s x ≡ true
+may-taken sums s (Exact v) t = t refl
+may-taken sums s (Inexact v) t = t refl
+may-taken sums s Absent t = refl
+
+pub got-may : {V S : Type 0} (sums : Bool) (es : Entries V S) → AllSettable sums es → (s : Stat) → may-set sums s (got es s) ≡ true
+got-may sums es h s = may-taken sums s (got es s) (got-taken sums es h s)
 
 -- Each rule keeps truth.
 module _ {V S : Type 0} (k : Column V S) (laws : ColumnLaws k) (in-order : Bool) (a b : List (Row V)) (x y : Entries V S) where

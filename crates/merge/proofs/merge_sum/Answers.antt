@@ -6,10 +6,10 @@ use Rattle.rules.specs.declared.statement.StatValue.the-variants.{Sum}
 use Rattle.rules.specs.Claims.{sum-claim}
 use Rattle.rules.specs.Column.{column}
 use Rattle.rules.specs.Merging.{rule, sum-rule}
-use Rattle.rules.proofs.Merges.{rule-taken}
+use Rattle.rules.proofs.Merges.{may-taken, rule-taken}
 use Rattle.set.specs.Viewed.{entries}
 use Rattle.set.proofs.Properly.{set-proper}
-use Rattle.merge.proofs.Stepping.{may-taken, set-done}
+use Rattle.merge.proofs.Stepping.{set-done}
 use Rattle.merge.proofs.merge_sum.Needs as need
 
 pub returns : need.returns
