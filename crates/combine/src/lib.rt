@@ -32,7 +32,6 @@ use rules::statement::StatValueClone;
 use rules::statement::Statement;
 use set::stats_set::StatsSet;
 use stat::Stat;
-use stat_type::combine_bound;
 use stat_type::IsConstant;
 use stat_type::IsConstantStatType;
 use stat_type::IsSorted;
@@ -51,6 +50,7 @@ use stat_type::Sum;
 use stat_type::SumStatType;
 use stat_type::UncompressedSizeInBytes;
 use stat_type::UncompressedSizeInBytesStatType;
+use stat_type::combine_bound;
 
 pub trait CombineSets<E: Element> {
     // Holds of the statements told, of this set before and after, and of what is declined.
@@ -82,7 +82,10 @@ pub impl<E: Element> CombineSets<E> for StatsSet<E, E::Sum> as SetCombine {
 }
 
 // The claim that a set has of a statistic after one more statement of it; none where the two contradict each other.
-fn joined<E: Element>(mine: Precision<StatValue<E, E::Sum>>, told: Statement<E, E::Sum>) -> Option<Precision<StatValue<E, E::Sum>>>
+fn joined<E: Element>(
+    mine: Precision<StatValue<E, E::Sum>>,
+    told: Statement<E, E::Sum>,
+) -> Option<Precision<StatValue<E, E::Sum>>>
     requires mine { ⌜ may-set (E·Element .sums .has-sums) (told .stat) mine ≡ true ⌝ }
     requires told { ⌜ settable (E·Element .sums .has-sums) (told .stat) (told .claim) ≡ true ⌝ }
     ensures { λ r. ⌜ r ≡ cond (is-absent mine) (Just (told .claim)) (intersected (column (E·Ordered .order) (Sum·Ordered .order) (E·Element .sums)) (told .stat) mine (told .claim)) ⌝ }
@@ -94,12 +97,18 @@ fn joined<E: Element>(mine: Precision<StatValue<E, E::Sum>>, told: Statement<E, 
     match told.stat {
         Stat::IsConstant => flags(combine_bound::<bool, IsConstant>(flag_in(mine), flag_in(claim))),
         Stat::IsSorted => flags(combine_bound::<bool, IsSorted>(flag_in(mine), flag_in(claim))),
-        Stat::IsStrictSorted => flags(combine_bound::<bool, IsStrictSorted>(flag_in(mine), flag_in(claim))),
+        Stat::IsStrictSorted => flags(combine_bound::<bool, IsStrictSorted>(
+            flag_in(mine),
+            flag_in(claim),
+        )),
         Stat::Max => elements(combine_bound::<E, Max>(element_in(mine), element_in(claim))),
         Stat::Min => elements(combine_bound::<E, Min>(element_in(mine), element_in(claim))),
         Stat::Sum => sums(combine_bound::<E::Sum, Sum>(sum_in(mine), sum_in(claim))),
         Stat::NullCount => counts(combine_bound::<u64, NullCount>(count_in(mine), count_in(claim))),
-        Stat::UncompressedSizeInBytes => counts(combine_bound::<u64, UncompressedSizeInBytes>(count_in(mine), count_in(claim))),
+        Stat::UncompressedSizeInBytes => counts(combine_bound::<u64, UncompressedSizeInBytes>(
+            count_in(mine),
+            count_in(claim),
+        )),
         Stat::NaNCount => counts(combine_bound::<u64, NaNCount>(count_in(mine), count_in(claim))),
     }
 }

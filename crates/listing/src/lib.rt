@@ -32,7 +32,7 @@ pub struct Nine<T> {
 
 impl<T: Copy> Nine<T> {
     // Nine times the same.
-    pub fn of(x: T) -> Self
+    fn of(x: T) -> Self
         ensures { λ r. ⌜ r ≡ record { s0 = x; s1 = x; s2 = x; s3 = x; s4 = x; s5 = x; s6 = x; s7 = x; s8 = x } ⌝ }
     {
         Nine {

@@ -103,7 +103,10 @@ pub fn bound<T: Ordered, S: StatType<T>>(claim: Precision<T>) -> Option<S::Bound
 }
 
 // Two claims of the same rows in one: their intersection, or the one that is there; none where they contradict each other.
-pub fn combine_bound<T: Ordered, S: StatType<T>>(mine: Precision<T>, told: Precision<T>) -> Option<Precision<T>>
+pub fn combine_bound<T: Ordered, S: StatType<T>>(
+    mine: Precision<T>,
+    told: Precision<T>,
+) -> Option<Precision<T>>
     ensures { λ r. ⌜ r ≡ narrowed (Bound·StatBound .met) mine told ⌝ }
 {
     let (Some(m1), Some(m2)) = (bound::<T, S>(mine), bound::<T, S>(told)) else {

@@ -5,6 +5,7 @@ ghost use mathlib.Core.List.{[], _∷_, _++_};
 ghost use lib.Dec.{eqb, ltb};
 ghost use lib.ListN.{length};
 ghost use Rattle.std.specs.declared.option.Option.the-variants.{None as Nothing};
+ghost use Rattle.std.specs.Vec.{made};
 ghost use Rattle.std.specs.shelf.Lists.{kept-by};
 ghost use Rattle.std.specs.shelf.Maps.{nth};
 ghost use Rattle.stat.specs.declared.Stat.{Stat as Statistic};
@@ -41,6 +42,29 @@ impl<E: Element> StatsSet<E, E::Sum> {
             claims: Claims::none(),
             order: Listing::empty(Stat::IsConstant),
         }
+    }
+
+    // A set with one statement, or none where the claim is absent. Declines a value of another kind.
+    pub fn of(stat: Stat, claim: Precision<StatValue<E, E::Sum>>) -> Result<Self, Refusal>
+        ensures answer { λ r. ⌜ refused r ≡ cond (may-set (E·Element .sums .has-sums) stat claim) Nothing (declined 1 Nothing) ⌝ }
+        ensures made { λ r. ⌜ made r (λ s. entries (E·Element .sums .has-sums) s ≡ put [] stat claim) ⌝ }
+    {
+        let mut values = StatsSet::new();
+        values.set(stat, claim)?;
+        Ok(values)
+    }
+
+    // How many entries there are.
+    pub fn len(&self) -> usize
+        ensures { λ r. ⌜ r ≡ length (entries (E·Element .sums .has-sums) (now (self .entry))) ⌝ }
+    {
+        self.shown().len()
+    }
+
+    pub fn is_empty(&self) -> bool
+        ensures { λ r. ⌜ r ≡ eqb (length (entries (E·Element .sums .has-sums) (now (self .entry)))) 0 ⌝ }
+    {
+        self.len() == 0
     }
 
     // Replaces the claim in place, or adds it last; an absent one clears. Declines a value of another kind.
@@ -135,7 +159,7 @@ pub impl<E: Element> StatsProvider<E> for StatsSet<E, E::Sum> as SetProvider {
     ghost told = { λ s. entries (E·Element .sums .has-sums) s };
 
     fn len(&mut self) -> usize {
-        self.shown().len()
+        StatsSet::len(self)
     }
 
     fn tell(&mut self, place: usize) -> Option<Statement<E, E::Sum>> {

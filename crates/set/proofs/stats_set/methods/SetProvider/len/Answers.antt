@@ -1,7 +1,0 @@
-use mathlib.Core.Path.{refl, sym, ap, _∙_}
-use lib.ListN.{length}
-use Rattle.claims.proofs.Views.{length-of}
-use Rattle.set.proofs.stats_set.methods.SetProvider.len.Needs as need
-
-pub returns : need.returns
-returns g c = record { answer = c .len .ensures ∙ ap length (c .shown .ensures) ∙ sym (length-of (c .args .self .now .claims) _); steady = refl }
