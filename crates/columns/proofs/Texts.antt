@@ -10,11 +10,10 @@ use Rattle.std.proofs.shelf.Patterns.{SplitAt, split-after, split-parts}
 use Rattle.std.specs.declared.num.ParseIntError.{ParseIntError}
 use Rattle.std.specs.declared.option.Option.the-variants.{Some, None}
 use Rattle.std.specs.declared.result.Result.{Result}
-use Rattle.std.specs.declared.result.Result.the-variants.{Ok, Err}
+use Rattle.std.specs.declared.result.Result.the-variants.{Err}
 use Rattle.columns.specs.declared.mark.Mark.{Mark}
 use Rattle.columns.specs.declared.mark.ParseMarkError.{ParseMarkError}
-use Rattle.columns.specs.declared.mark.ParseMarkError.the-variants.{NoColon, Lot, Piece}
-use Rattle.columns.specs.Marks.{mark}
+use Rattle.columns.specs.declared.mark.ParseMarkError.the-variants.{NoColon}
 use Rattle.columns.specs.Numbers.{ReadsU32}
 use Rattle.columns.specs.Texts.{mark-of, NoColonIn, ReadsMark}
 
@@ -40,14 +39,3 @@ module _ (bs : List ℕ) (before behind : RefT (List ℕ)) (cut : SplitAt 58 bs 
             let same = split-after 58 bs us vs (Some (before, behind)) cut (omega arith) d lacks in
             (x, y, subst (λ t. ReadsU32 t x) (same .0) p, subst (λ t. ReadsU32 t y) (same .1) q, e);
       }
-
--- what is made of the two numbers
-pub both-read : (x y : Result ℕ ParseIntError) (lot piece : ℕ) (m : Mark) → x ≡ Ok lot → y ≡ Ok piece → m ≡ mark lot piece → Ok m ≡ mark-of x y
-both-read x y lot piece m p q e = rw (p, q, e)
-
-pub lot-unread : (x y : Result ℕ ParseIntError) (error : ParseIntError) → x ≡ Err error → Err (Lot error) ≡ mark-of x y
-lot-unread x y error p = rw p
-
-pub piece-unread : (x y : Result ℕ ParseIntError) (error : ParseIntError) → ((other : ParseIntError) → x ≡ Err other → ⊥) → y ≡ Err error → Err (Piece error) ≡ mark-of x y
-piece-unread (Ok lot) y error h p = rw p
-piece-unread (Err other) y error h p = absurd (h other refl)

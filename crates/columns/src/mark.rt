@@ -2,8 +2,9 @@
 ghost use mathlib.Core.Path.{_≡_};
 ghost use Rattle.std.specs.declared.option.Option.the-variants.{Some};
 ghost use Rattle.columns.specs.Marks.{mark, mark-order, mark-sums, mark-bytes, SortsBytes};
-ghost use Rattle.columns.specs.Texts.{mark-text, ReadsMark};
+ghost use Rattle.columns.specs.Texts.{mark-text, mark-of, ReadsMark};
 use crate::measure::Measure;
+use crate::measure::MeasureElement;
 use crate::measure::MeasureOrdered;
 use order::ordered::Ordered;
 use rules::element::Element;
@@ -86,7 +87,7 @@ pub impl Element for Mark as MarkElement {
     }
 
     fn zero() -> Measure {
-        Measure::new(0)
+        Measure::zero()
     }
 
     fn single(self) -> Measure {
@@ -120,6 +121,20 @@ pub enum ParseMarkError {
     Piece(ParseIntError),
 }
 
+// The mark of the two numbers; of two errors the lot's.
+fn joined(
+    lot: Result<u32, ParseIntError>,
+    piece: Result<u32, ParseIntError>,
+) -> Result<Mark, ParseMarkError>
+    ensures { λ r. ⌜ r ≡ mark-of lot piece ⌝ }
+{
+    match (lot, piece) {
+        (Ok(lot), Ok(piece)) => Ok(Mark::new(lot, piece)),
+        (Err(error), _) => Err(ParseMarkError::Lot(error)),
+        (_, Err(error)) => Err(ParseMarkError::Piece(error)),
+    }
+}
+
 // `LOT:PIECE`, parted at the first `:`
 pub impl FromStr for Mark as MarkFromStr {
     type Err = ParseMarkError;
@@ -130,10 +145,6 @@ pub impl FromStr for Mark as MarkFromStr {
         let Some((before, behind)) = s.split_once(':') else {
             return Err(ParseMarkError::NoColon);
         };
-        match (u32::from_str(before), u32::from_str(behind)) {
-            (Ok(lot), Ok(piece)) => Ok(Mark::new(lot, piece)),
-            (Err(error), _) => Err(ParseMarkError::Lot(error)),
-            (_, Err(error)) => Err(ParseMarkError::Piece(error)),
-        }
+        joined(u32::from_str(before), u32::from_str(behind))
     }
 }

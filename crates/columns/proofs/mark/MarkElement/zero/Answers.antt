@@ -1,6 +1,0 @@
-use Rattle.columns.specs.Measures.{measure-sums}
-use Rattle.columns.proofs.Measures.{same-measure}
-use Rattle.columns.proofs.mark.MarkElement.zero.Needs as need
-
-pub returns : need.returns
-returns c = same-measure (c .new .result) (measure-sums .zero) (c .new .ensures)
