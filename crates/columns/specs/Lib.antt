@@ -1,0 +1,4 @@
+pub mod Numbers
+pub mod Measures
+pub mod Marks
+pub mod Texts
