@@ -1,5 +1,5 @@
 -- Marks: their bytes compare as they do.
-use mathlib.Core.Path.{_≡_, refl, sym, ap, subst, _∙_}
+use mathlib.Core.Path.{_≡_, refl, sym, ap, _∙_}
 use mathlib.Core.List.{List, [], _++_}
 use Prim.Native.Nat.{ℕ, _/_, _%_, _^_, _<_}
 use native.Mathlib.Omega.{arith}
@@ -8,7 +8,7 @@ use Rattle.std.specs.declared.cmp.Ordering.{Ordering}
 use Rattle.std.specs.declared.cmp.Ordering.the-variants.{Less, Equal, Greater}
 use Rattle.std.specs.Orderings.{thenBy}
 use Rattle.columns.specs.declared.mark.Mark.{Mark}
-use Rattle.columns.specs.Marks.{mark-order, four-bytes, mark-bytes, bytes-order, Narrow, SortsBytes}
+use Rattle.columns.specs.Marks.{four-bytes, mark-bytes, bytes-order, Narrow, SortsBytes}
 use Rattle.order.specs.Order.{count-order}
 
 then-assoc : (o p q : Ordering) → thenBy (thenBy o p) q ≡ thenBy o (thenBy p q)
@@ -44,7 +44,8 @@ four-sort m n xs ys h k =
     ∙ one-byte (m / 256) (n / 256) (m / 65536) (n / 65536) _ (omega arith) (omega arith)
     ∙ one-byte m n (m / 256) (n / 256) (bytes-order xs ys) refl refl
 
-pub marks-sort : (m : Mark) → Narrow m → SortsBytes m (mark-bytes m)
-marks-sort m h other k =
-    four-sort (m .lot) (other .lot) (four-bytes (m .piece)) (four-bytes (other .piece)) (h .0) (k .0)
+pub sorts-by-bytes : (m : Mark) → Narrow m → (bytes : List ℕ) → bytes ≡ mark-bytes m → SortsBytes m bytes
+sorts-by-bytes m h bytes e other k =
+    ap (λ bs. bytes-order bs (mark-bytes other)) e
+    ∙ four-sort (m .lot) (other .lot) (four-bytes (m .piece)) (four-bytes (other .piece)) (h .0) (k .0)
     ∙ ap (thenBy (count-order (m .lot) (other .lot))) (four-sort (m .piece) (other .piece) [] [] (h .1) (k .1) ∙ then-equal _)

@@ -1,5 +1,5 @@
 -- Measures: the laws of their order and of their sums.
-use mathlib.Core.Path.{_≡_, refl, sym, ap, subst, _∙_}
+use mathlib.Core.Path.{_≡_, refl, sym, ap, subst}
 use mathlib.Core.Bool.{Bool, true, false}
 use Prim.Native.Nat.{_^_, _<_, _≤_}
 use native.Mathlib.Bridge.{le-prop}
@@ -7,8 +7,7 @@ use native.Mathlib.Omega.{arith}
 use lib.IntN.{ℤ, _+ℤ_}
 use lib.Signed.{mag}
 use borrow.Author.Tests.{ltb-true, ltb-false}
-use Rattle.std.specs.declared.option.Option.{Option}
-use Rattle.std.specs.declared.option.Option.the-variants.{Some, None}
+use Rattle.std.specs.declared.option.Option.the-variants.{Some}
 use Rattle.columns.specs.declared.measure.Measure.{Measure}
 use Rattle.columns.specs.Measures.{measure, measure-order, fits, measured-if, measured, measure-sums}
 use Rattle.order.specs.Order.{OrderLaws}

@@ -20,6 +20,7 @@ pub use element::MeasureElement;
 #[derive(Copy, PartialEq, Eq, Debug)]
 pub struct Measure {
     value: i64,
+    // it is from -2 ^ 63 up to and without 2 ^ 63: `mag` is n of both n and -(n + 1)
     ghost held: { mag value < 2 ^ 63 },
 }
 
@@ -34,6 +35,7 @@ pub impl Clone for Measure as MeasureClone {
 }
 
 impl Measure {
+    // The measure of a number; no other measure has that number.
     pub fn new(value: i64) -> Self
         ensures { λ r. ⌜ r .value ≡ value ⌝ }
     {

@@ -1,5 +1,4 @@
 // Measures as elements: a measure is its own sum, and two add where the total fits 64 signed bits.
-ghost use mathlib.Core.Path.{_≡_};
 ghost use Rattle.columns.specs.Measures.{measure-sums};
 use crate::measure::Measure;
 use crate::measure::MeasureOrdered;

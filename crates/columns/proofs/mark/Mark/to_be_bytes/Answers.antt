@@ -1,9 +1,9 @@
-use mathlib.Core.Path.{_≡_, sym, subst}
+use mathlib.Core.Path.{_≡_}
 use mathlib.Core.List.{[], _∷_}
 use lib.ListN.{getD}
 use borrow.Author.Needs.{needs}
-use Rattle.columns.specs.Marks.{mark-bytes, Narrow, SortsBytes}
-use Rattle.columns.proofs.Marks.{marks-sort}
+use Rattle.columns.specs.Marks.{mark-bytes, Narrow}
+use Rattle.columns.proofs.Marks.{sorts-by-bytes}
 use Rattle.columns.proofs.mark.Mark.to_be_bytes.Needs as need
 
 pub returns : need.returns
@@ -12,4 +12,4 @@ returns c =
     let lot = c .to-be-bytes .result in
     let piece = c .to-be-bytes-2 .result in
     let e : getD lot 0 0 ∷ getD lot 1 0 ∷ getD lot 2 0 ∷ getD lot 3 0 ∷ getD piece 0 0 ∷ getD piece 1 0 ∷ getD piece 2 0 ∷ getD piece 3 0 ∷ [] ≡ mark-bytes (c .args .self) = search needs in
-    record { value = e; sorts = subst (SortsBytes (c .args .self)) (sym e) (marks-sort (c .args .self) narrow) }
+    record { value = e; sorts = sorts-by-bytes (c .args .self) narrow _ e }
