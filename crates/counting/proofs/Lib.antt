@@ -1,0 +1,3 @@
+pub mod Even
+pub mod Running
+pub mod Filling
