@@ -89,7 +89,7 @@ nulls-fed k t (Some v) = omega arith
 
 -- the tally of one row more
 pub run-more : {V S : Type 0} (k : Column V S) (rows : List (Row V)) (i : ℕ) (row : Row V) (t u : Tally V S) → i < length rows → row ≡ getD rows i row → u ≡ with-row (k .order) (k .sums) t row → (t .nulls ≤ i) × (t ≡ run k (fresh (k .sums)) (take i rows)) → (u .nulls ≤ i + 1) × (u ≡ run k (fresh (k .sums)) (take (i + 1) rows))
-run-more k rows i row t u below is made was =
-    ( omega (arith, nulls-fed k t row, ap (λ (x : Tally _ _). x .nulls) made, was .0)
-    , made ∙ ap₂ (with-row (k .order) (k .sums)) (was .1) is ∙ sym (folded-more (with-row (k .order) (k .sums)) (fresh (k .sums)) rows i row below)
-    )
+run-more k rows i row t u below is made was = (
+  omega (arith, nulls-fed k t row, ap (λ (x : Tally _ _). x .nulls) made, was .0),
+  made ∙ ap₂ (with-row (k .order) (k .sums)) (was .1) is ∙ sym (folded-more (with-row (k .order) (k .sums)) (fresh (k .sums)) rows i row below),
+)
