@@ -28,7 +28,7 @@ pub fn count<E: Element>(rows: &[Option<E>]) -> StatsSet<E, E::Sum>
 }
 
 // Tells what counting the rows gives.
-#[derive(Clone, Copy)]
+#[derive(Drop)]
 pub struct LiveCount<'a, E> {
     rows: &'a [Option<E>],
 }

@@ -1,4 +1,5 @@
--- The block `LiveCountProvider` meets its trait.
+-- The block `LiveCountProvider` meets its trait. For a block with a lifetime, of a trait with a law, Rattle makes no such proof.
+-- The methods are met as Rattle meets those of a trait without a law; `proper` is the law.
 use Rattle.counting.proofs.LiveCountProvider.len.Met
 use Rattle.counting.proofs.LiveCountProvider.len.Symbol
 use Rattle.counting.proofs.LiveCountProvider.tell.Met as Met'
@@ -8,12 +9,12 @@ use Rattle.counting.specs.contracts.LiveCount
 use Rattle.counting.specs.contracts.LiveCountProvider.len
 use Rattle.counting.specs.contracts.LiveCountProvider.tell
 use Rattle.counting.specs.contracts.LiveCountProvider.the-impl
+use Rattle.rules.specs.Column.{column}
 use Rattle.rules.specs.contracts.provider.StatsProvider.len as len'
 use Rattle.rules.specs.contracts.provider.StatsProvider.tell as tell'
-use Rattle.rules.specs.Column.{column}
 use Rattle.rules.proofs.Counted.{counted-proper}
 use base.Logic
-use contract.BorrowLft
+use contract.BorrowLft.{_⊑_, ⊑-refl, ⊑-trans, ⊑-static, ⊑-meet}
 use contract.Running
 use denote.Param
 use denote.Ref
@@ -22,317 +23,87 @@ use denote.Triple.Impl
 use denote.Triple.Less
 use denote.Triple.Spec
 use denote.Triple.Table
-use mathlib.Core.Bool
-use mathlib.Core.List
-use mathlib.Core.Path as Path'
+use mathlib.Core.Bool.{true}
+use mathlib.Core.List.{[], _∷_, _++_}
+use mathlib.Core.Path.{refl}
 use mir.Syntax
 
 ruleset ends = (Logic.id⊢, Impl.to-emp, Less.less)
 
-ruleset parts = (
-  BorrowLft.⊑-refl,
-  BorrowLft.⊑-static,
-  BorrowLft.⊑-meet,
-  Impl.in-left,
-  Impl.in-right,
-)
+ruleset parts = (⊑-refl, ⊑-static, ⊑-meet, Impl.in-left, Impl.in-right)
 
 pub bound : Statement.statement
-bound =
-    λ γ″' x'14 x'15 x'16 x'17 x'18 x'19 x'20 x'21 x'22 x'23 E·Element' E·Element·dict' E·Ordered'
-    E·Ordered·dict' Sum·Ordered' Sum·Ordered·dict' M' 𝓤' H' 𝓜' 𝓖' 𝓡' x'24 x'25
-    x'26. let x'27 : Ref.NamedLft = record { mir = Syntax.erased; lft = x'16 } in record {
-      proper = λ p. counted-proper (column (E·Ordered' .order) (Sum·Ordered' .order) (E·Element' .sums)) (p .rows .now);
-      E·Sum·lives = search (
-        parts,
-        Impl.by-way-of (List._++_ (LiveCount.the-row x'27 (Param.copied 0 x'17) .lives)
-            (x'17 .lives)) (x'17 .lives) (x'18 .lives) (x'24 .Self·Sum·lives),
-      ) depth 24 fits 20000;
-      len = Impl.implements
-          𝓤'
-          H'
-          (𝓖' .A)
-          (len.signature x'17 x'18)
-          4
-          (len'.ended (LiveCount.the-row x'27 (Param.copied 0 x'17)) x'17 x'18 (the-impl.ghosts
-          x'17 x'18 E·Element' E·Element·dict' E·Ordered' E·Ordered·dict' Sum·Ordered'
-          Sum·Ordered·dict') (the-impl.dict x'17 x'18 E·Element' E·Element·dict' E·Ordered'
-          E·Ordered·dict' Sum·Ordered' Sum·Ordered·dict') E·Element' E·Element·dict' E·Ordered'
-          E·Ordered·dict' Sum·Ordered' Sum·Ordered·dict' .signature .outlives)
-          (λ τs'. (τs' .0, (x'27 .lft, (x'17 .lives, (τs' .1 .1 .1 .0, tt)))))
-          (Running.givenOf 𝓤' H' 𝓜' 𝓖')
-          (𝓡' .run (γ″' (Syntax.method (the-impl.dict x'17 x'18 E·Element' E·Element·dict'
-          E·Ordered' E·Ordered·dict' Sum·Ordered' Sum·Ordered·dict') 0 (Param.layouts List.[]
-          tt))))
-          (Table.run-framed 𝓤' H' 𝓜' 𝓡' (γ″' (Syntax.method (the-impl.dict x'17 x'18 E·Element'
-          E·Element·dict' E·Ordered' E·Ordered·dict' Sum·Ordered' Sum·Ordered·dict') 0
-          (Param.layouts List.[] tt))))
-          (len.spec x'17 x'18 E·Element' E·Element·dict' E·Ordered' E·Ordered·dict' Sum·Ordered'
-          Sum·Ordered·dict' 𝓤' H' (𝓖' .A) (𝓜' .mem) (𝓡' .returns))
-          (λ τs'' a'. record {
-            ghost = len'.spec (LiveCount.the-row x'27 (Param.copied 0 x'17)) x'17 x'18
-                (the-impl.ghosts x'17 x'18 E·Element' E·Element·dict' E·Ordered' E·Ordered·dict'
-                Sum·Ordered' Sum·Ordered·dict') (the-impl.dict x'17 x'18 E·Element' E·Element·dict'
-                E·Ordered' E·Ordered·dict' Sum·Ordered' Sum·Ordered·dict') E·Element'
-                E·Element·dict' E·Ordered' E·Ordered·dict' Sum·Ordered' Sum·Ordered·dict' 𝓤' H'
-                (𝓖' .A) (𝓜' .mem) (𝓡' .returns) τs'' a' .ghost;
-            requires = λ y'. len'.spec (LiveCount.the-row x'27 (Param.copied 0 x'17)) x'17 x'18
-                (the-impl.ghosts x'17 x'18 E·Element' E·Element·dict' E·Ordered' E·Ordered·dict'
-                Sum·Ordered' Sum·Ordered·dict') (the-impl.dict x'17 x'18 E·Element' E·Element·dict'
-                E·Ordered' E·Ordered·dict' Sum·Ordered' Sum·Ordered·dict') E·Element'
-                E·Element·dict' E·Ordered' E·Ordered·dict' Sum·Ordered' Sum·Ordered·dict' 𝓤' H'
-                (𝓖' .A) (𝓜' .mem) (𝓡' .returns) τs'' a' .requires y';
-            ensures = len'.spec (LiveCount.the-row x'27 (Param.copied 0 x'17)) x'17 x'18
-                (the-impl.ghosts x'17 x'18 E·Element' E·Element·dict' E·Ordered' E·Ordered·dict'
-                Sum·Ordered' Sum·Ordered·dict') (the-impl.dict x'17 x'18 E·Element' E·Element·dict'
-                E·Ordered' E·Ordered·dict' Sum·Ordered' Sum·Ordered·dict') E·Element'
-                E·Element·dict' E·Ordered' E·Ordered·dict' Sum·Ordered' Sum·Ordered·dict' 𝓤' H'
-                (𝓖' .A) (𝓜' .mem) (𝓡' .returns) τs'' a' .ensures;
-          })
+bound γ len-wired tell-wired κ E S E-laws S-laws E-copy S-copy outlives eg ed og od sg sd M 𝓤 H 𝓜 𝓖 𝓡 element ordered sum-ordered =
+    let a : Ref.NamedLft = record { mir = Syntax.erased; lft = κ } in
+    let row = LiveCount.the-row a (Param.copied 0 E) in
+    let ghosts = the-impl.ghosts E S eg ed og od sg sd in
+    let dict = the-impl.dict E S eg ed og od sg sd in
+    let bounds = Param.bounded (Syntax.aType ∷ Syntax.aType ∷ []) (E, (S, tt)) (Syntax.dcons ed (Syntax.dcons od (Syntax.dcons sd Syntax.dnil))) in
+    let len-at = Syntax.method dict 0 (Param.layouts [] tt) in
+    let len-asked = len'.spec row E S ghosts dict eg ed og od sg sd 𝓤 H (𝓖 .A) (𝓜 .mem) (𝓡 .returns) in
+    let len-asked-end = len'.ended row E S ghosts dict eg ed og od sg sd in
+    let len-own = len.spec E S eg ed og od sg sd 𝓤 H (𝓖 .A) (𝓜 .mem) (𝓡 .returns) in
+    let len-own-end = len.ended E S eg ed og od sg sd in
+    let tell-at = Syntax.method dict 1 (Param.layouts [] tt) in
+    let tell-asked = tell'.spec row E S ghosts dict eg ed og od sg sd 𝓤 H (𝓖 .A) (𝓜 .mem) (𝓡 .returns) in
+    let tell-asked-end = tell'.ended row E S ghosts dict eg ed og od sg sd in
+    let tell-own = tell.spec E S eg ed og od sg sd 𝓤 H (𝓖 .A) (𝓜 .mem) (𝓡 .returns) in
+    let tell-own-end = tell.ended E S eg ed og od sg sd in
+    record {
+      proper = λ p. counted-proper (column (og .order) (sg .order) (eg .sums)) (p .rows .now);
+      E·Sum·lives = search (parts, Impl.by-way-of (row .lives ++ E .lives) (E .lives) (S .lives) (element .Self·Sum·lives)) depth 24 fits 20000;
+      len =
+          Impl.implements 𝓤 H (𝓖 .A) (len.signature E S) 4 (len-asked-end .signature .outlives)
+          (λ τs. (τs .0, (a .lft, (E .lives, (τs .1 .1 .1 .0, tt)))))
+          (Running.givenOf 𝓤 H 𝓜 𝓖) (𝓡 .run (γ len-at)) (Table.run-framed 𝓤 H 𝓜 𝓡 (γ len-at)) len-own
+          (λ τs x. record { ghost = len-asked τs x .ghost; requires = λ y. len-asked τs x .requires y; ensures = len-asked τs x .ensures })
           3
-          (λ τs'3. (τs'3 .1 .0, (τs'3 .1 .1 .0, (τs'3 .1 .1 .1 .0, tt))))
-          (λ τs'4. (
-            LiveCount.the-row x'27 (Param.copied 0 x'17) .lives,
-            (x'17 .lives, (x'18 .lives, tt)),
-          ))
+          (λ τs. (τs .1 .0, (τs .1 .1 .0, (τs .1 .1 .1 .0, tt))))
+          (λ τs. (row .lives, (E .lives, (S .lives, tt))))
           ((0, tt), ((1, tt), ((1, tt), ((3, tt), tt))))
-          (λ τs'5 a'' y''. Logic.emp 𝓤')
-          (λ τs'6 a'3 y'3. Logic.id⊢ 𝓤' (len'.spec (LiveCount.the-row x'27 (Param.copied 0 x'17))
-          x'17 x'18 (the-impl.ghosts x'17 x'18 E·Element' E·Element·dict' E·Ordered'
-          E·Ordered·dict' Sum·Ordered' Sum·Ordered·dict') (the-impl.dict x'17 x'18 E·Element'
-          E·Element·dict' E·Ordered' E·Ordered·dict' Sum·Ordered' Sum·Ordered·dict') E·Element'
-          E·Element·dict' E·Ordered' E·Ordered·dict' Sum·Ordered' Sum·Ordered·dict' 𝓤' H' (𝓖' .A)
-          (𝓜' .mem) (𝓡' .returns) τs'6 a'3 .requires y'3))
-          (λ τs'7 h'. (
+          (λ τs x y. Logic.emp 𝓤)
+          (λ τs x y. Logic.id⊢ 𝓤 (len-asked τs x .requires y))
+          (λ τs h.
+            let here : _⊑_ (τs .1 .0) (a .lft) = ⊑-trans (τs .1 .0) (row .lives) (a .lft) (h .1 .0) (search Impl.inside depth 24 fits 20000) in
+            let there : _⊑_ (τs .1 .0) (E .lives) = ⊑-trans (τs .1 .0) (row .lives) (E .lives) (h .1 .0) (search Impl.inside depth 24 fits 20000) in
             (
-              BorrowLft.⊑-refl (τs'7 .0),
-              (
-                BorrowLft.⊑-trans (τs'7 .1 .0) (τs'7 .1 .0) (x'27 .lft) (BorrowLft.⊑-refl
-                    (τs'7 .1 .0)) (BorrowLft.⊑-trans (τs'7 .1 .0) (LiveCount.the-row x'27
-                    (Param.copied 0 x'17) .lives) (x'27 .lft) (h' .1 .0)
-                    (search Impl.inside depth 24 fits 20000)),
-                (
-                  BorrowLft.⊑-trans (τs'7 .1 .0) (τs'7 .1 .0) (x'17 .lives) (BorrowLft.⊑-refl
-                      (τs'7 .1 .0)) (BorrowLft.⊑-trans (τs'7 .1 .0) (LiveCount.the-row x'27
-                      (Param.copied 0 x'17) .lives) (x'17 .lives) (h' .1 .0)
-                      (search Impl.inside depth 24 fits 20000)),
-                  (BorrowLft.⊑-refl (τs'7 .1 .1 .1 .0), tt),
-                ),
-              ),
-            ),
-            (
-              BorrowLft.⊑-trans (τs'7 .0) (τs'7 .1 .0) (x'27 .lft) (BorrowLft.⊑-trans (τs'7 .0)
-                  (τs'7 .0) (τs'7 .1 .0) (BorrowLft.⊑-refl (τs'7 .0)) (h' .0 .0))
-                  (BorrowLft.⊑-trans (τs'7 .1 .0) (LiveCount.the-row x'27 (Param.copied 0
-                  x'17) .lives) (x'27 .lft) (h' .1 .0) (search Impl.inside depth 24 fits 20000)),
-              (
-                BorrowLft.⊑-trans (τs'7 .0) (τs'7 .1 .0) (x'17 .lives) (BorrowLft.⊑-trans (τs'7 .0)
-                    (τs'7 .0) (τs'7 .1 .0) (BorrowLft.⊑-refl (τs'7 .0)) (h' .0 .0))
-                    (BorrowLft.⊑-trans (τs'7 .1 .0) (LiveCount.the-row x'27 (Param.copied 0
-                    x'17) .lives) (x'17 .lives) (h' .1 .0)
-                    (search Impl.inside depth 24 fits 20000)),
-                (
-                  BorrowLft.⊑-trans (x'27 .lft) (x'27 .lft) (x'17 .lives) (BorrowLft.⊑-refl
-                      (x'27 .lft)) x'23,
-                  tt,
-                ),
-              ),
-            ),
-          ))
-          (λ τs'8 a'4 y'4. y'4)
-          (λ τs'9 h'' a'5 y'5. Impl.insides-in 𝓤' 2 (x'17 .lives, (τs'9 .1 .1 .1 .0, tt)) (
-            x'17 .lives,
-            (x'18 .lives, tt),
-          ) (Logic.emp 𝓤') (
-            BorrowLft.⊑-refl (x'17 .lives),
-            (
-              BorrowLft.⊑-trans (τs'9 .1 .1 .1 .0) (x'18 .lives) (x'18 .lives) (h'' .1 .1 .1 .0)
-                  (search Impl.inside depth 24 fits 20000),
-              tt,
-            ),
-          ))
-          (λ τs'10 a'6 y'6 r'. Impl.hidden 4
-          (τs'10 .0, (x'27 .lft, (x'17 .lives, (τs'10 .1 .1 .1 .0, tt)))) 𝓤' H' (𝓖' .A)
-          (len.signature x'17 x'18 .params) (len.ended x'17 x'18 E·Element' E·Element·dict'
-          E·Ordered' E·Ordered·dict' Sum·Ordered' Sum·Ordered·dict' .kept) (Bool.true, tt) a'6
-          (λ ws'. len.clauses x'17 x'18 E·Element' E·Element·dict' E·Ordered' E·Ordered·dict'
-          Sum·Ordered' Sum·Ordered·dict' 𝓤' H' (𝓖' .A) (𝓜' .mem) (𝓡' .returns)
-          (τs'10 .0, (x'27 .lft, (x'17 .lives, (τs'10 .1 .1 .1 .0, tt)))) a'6 .ensures y'6 r'
-          (End.outs {n = 4} (τs'10 .0, (x'27 .lft, (x'17 .lives, (τs'10 .1 .1 .1 .0, tt))))
-          (len.ended x'17 x'18 E·Element' E·Element·dict' E·Ordered' E·Ordered·dict' Sum·Ordered'
-          Sum·Ordered·dict' .signature .params) (len.ended x'17 x'18 E·Element' E·Element·dict'
-          E·Ordered' E·Ordered·dict' Sum·Ordered' Sum·Ordered·dict' .kept) a'6 ws'))
-          (λ ws''. len'.clauses (LiveCount.the-row x'27 (Param.copied 0 x'17)) x'17 x'18
-          (the-impl.ghosts x'17 x'18 E·Element' E·Element·dict' E·Ordered' E·Ordered·dict'
-          Sum·Ordered' Sum·Ordered·dict') (the-impl.dict x'17 x'18 E·Element' E·Element·dict'
-          E·Ordered' E·Ordered·dict' Sum·Ordered' Sum·Ordered·dict') E·Element' E·Element·dict'
-          E·Ordered' E·Ordered·dict' Sum·Ordered' Sum·Ordered·dict' 𝓤' H' (𝓖' .A) (𝓜' .mem)
-          (𝓡' .returns) τs'10 a'6 .ensures y'6 r' (End.outs {n = 4} τs'10 (len'.ended
-          (LiveCount.the-row x'27 (Param.copied 0 x'17)) x'17 x'18 (the-impl.ghosts x'17 x'18
-          E·Element' E·Element·dict' E·Ordered' E·Ordered·dict' Sum·Ordered' Sum·Ordered·dict')
-          (the-impl.dict x'17 x'18 E·Element' E·Element·dict' E·Ordered' E·Ordered·dict'
-          Sum·Ordered' Sum·Ordered·dict') E·Element' E·Element·dict' E·Ordered' E·Ordered·dict'
-          Sum·Ordered' Sum·Ordered·dict' .signature .params) (len'.ended (LiveCount.the-row x'27
-          (Param.copied 0 x'17)) x'17 x'18 (the-impl.ghosts x'17 x'18 E·Element' E·Element·dict'
-          E·Ordered' E·Ordered·dict' Sum·Ordered' Sum·Ordered·dict') (the-impl.dict x'17 x'18
-          E·Element' E·Element·dict' E·Ordered' E·Ordered·dict' Sum·Ordered' Sum·Ordered·dict')
-          E·Element' E·Element·dict' E·Ordered' E·Ordered·dict' Sum·Ordered'
-          Sum·Ordered·dict' .kept) a'6 ws'')) λ x'28. search ends depth 24 fits 20000)
-          (Table.widened 𝓤' H' (Spec.tripleOf 𝓤' H' (𝓖' .A) (len.signature x'17 x'18) (len.spec
-          x'17 x'18 E·Element' E·Element·dict' E·Ordered' E·Ordered·dict' Sum·Ordered'
-          Sum·Ordered·dict' 𝓤' H' (𝓖' .A) (𝓜' .mem) (𝓡' .returns))) 𝓜' 𝓡' γ″' (γ″' (Symbol.name
-          (Param.bounded (List._∷_ Syntax.aType (List._∷_ Syntax.aType List.[]))
-          (x'17, (x'18, tt)) (Syntax.dcons E·Element·dict' (Syntax.dcons E·Ordered·dict'
-          (Syntax.dcons Sum·Ordered·dict' Syntax.dnil)))))) (γ″' (Syntax.method (the-impl.dict x'17
-          x'18 E·Element' E·Element·dict' E·Ordered' E·Ordered·dict' Sum·Ordered'
-          Sum·Ordered·dict') 0 (Param.layouts List.[] tt))) (Symbol.as-method γ″' x'14
-          (Syntax.method (the-impl.dict x'17 x'18 E·Element' E·Element·dict' E·Ordered'
-          E·Ordered·dict' Sum·Ordered' Sum·Ordered·dict') 0 (Param.layouts List.[] tt)) Path'.refl)
-          (Met.met 𝓤' H' 𝓜' 𝓖' (Running.within 𝓤' H' 𝓜' 𝓡' γ″') x'14 x'17 x'18 x'19 x'20 x'21 x'22
-          E·Element' E·Element·dict' E·Ordered' E·Ordered·dict' Sum·Ordered' Sum·Ordered·dict' x'24
-          x'25 x'26));
-      tell = Impl.implements
-          𝓤'
-          H'
-          (𝓖' .A)
-          (tell.signature x'17 x'18)
-          4
-          (tell'.ended (LiveCount.the-row x'27 (Param.copied 0 x'17)) x'17 x'18 (the-impl.ghosts
-          x'17 x'18 E·Element' E·Element·dict' E·Ordered' E·Ordered·dict' Sum·Ordered'
-          Sum·Ordered·dict') (the-impl.dict x'17 x'18 E·Element' E·Element·dict' E·Ordered'
-          E·Ordered·dict' Sum·Ordered' Sum·Ordered·dict') E·Element' E·Element·dict' E·Ordered'
-          E·Ordered·dict' Sum·Ordered' Sum·Ordered·dict' .signature .outlives)
-          (λ τs'11. (τs'11 .0, (x'27 .lft, (x'17 .lives, (τs'11 .1 .1 .1 .0, tt)))))
-          (Running.givenOf 𝓤' H' 𝓜' 𝓖')
-          (𝓡' .run (γ″' (Syntax.method (the-impl.dict x'17 x'18 E·Element' E·Element·dict'
-          E·Ordered' E·Ordered·dict' Sum·Ordered' Sum·Ordered·dict') 1 (Param.layouts List.[]
-          tt))))
-          (Table.run-framed 𝓤' H' 𝓜' 𝓡' (γ″' (Syntax.method (the-impl.dict x'17 x'18 E·Element'
-          E·Element·dict' E·Ordered' E·Ordered·dict' Sum·Ordered' Sum·Ordered·dict') 1
-          (Param.layouts List.[] tt))))
-          (tell.spec x'17 x'18 E·Element' E·Element·dict' E·Ordered' E·Ordered·dict' Sum·Ordered'
-          Sum·Ordered·dict' 𝓤' H' (𝓖' .A) (𝓜' .mem) (𝓡' .returns))
-          (λ τs'12 a'7. record {
-            ghost = tell'.spec (LiveCount.the-row x'27 (Param.copied 0 x'17)) x'17 x'18
-                (the-impl.ghosts x'17 x'18 E·Element' E·Element·dict' E·Ordered' E·Ordered·dict'
-                Sum·Ordered' Sum·Ordered·dict') (the-impl.dict x'17 x'18 E·Element' E·Element·dict'
-                E·Ordered' E·Ordered·dict' Sum·Ordered' Sum·Ordered·dict') E·Element'
-                E·Element·dict' E·Ordered' E·Ordered·dict' Sum·Ordered' Sum·Ordered·dict' 𝓤' H'
-                (𝓖' .A) (𝓜' .mem) (𝓡' .returns) τs'12 a'7 .ghost;
-            requires = λ y'7. tell'.spec (LiveCount.the-row x'27 (Param.copied 0 x'17)) x'17 x'18
-                (the-impl.ghosts x'17 x'18 E·Element' E·Element·dict' E·Ordered' E·Ordered·dict'
-                Sum·Ordered' Sum·Ordered·dict') (the-impl.dict x'17 x'18 E·Element' E·Element·dict'
-                E·Ordered' E·Ordered·dict' Sum·Ordered' Sum·Ordered·dict') E·Element'
-                E·Element·dict' E·Ordered' E·Ordered·dict' Sum·Ordered' Sum·Ordered·dict' 𝓤' H'
-                (𝓖' .A) (𝓜' .mem) (𝓡' .returns) τs'12 a'7 .requires y'7;
-            ensures = tell'.spec (LiveCount.the-row x'27 (Param.copied 0 x'17)) x'17 x'18
-                (the-impl.ghosts x'17 x'18 E·Element' E·Element·dict' E·Ordered' E·Ordered·dict'
-                Sum·Ordered' Sum·Ordered·dict') (the-impl.dict x'17 x'18 E·Element' E·Element·dict'
-                E·Ordered' E·Ordered·dict' Sum·Ordered' Sum·Ordered·dict') E·Element'
-                E·Element·dict' E·Ordered' E·Ordered·dict' Sum·Ordered' Sum·Ordered·dict' 𝓤' H'
-                (𝓖' .A) (𝓜' .mem) (𝓡' .returns) τs'12 a'7 .ensures;
-          })
+              (⊑-refl (τs .0), (here, (there, (⊑-refl (τs .1 .1 .1 .0), tt)))),
+              (⊑-trans (τs .0) (τs .1 .0) (a .lft) (h .0 .0) here, (⊑-trans (τs .0) (τs .1 .0) (E .lives) (h .0 .0) there, (outlives, tt))),
+            ))
+          (λ τs x y. y)
+          (λ τs h x y. Impl.insides-in 𝓤 2 (E .lives, (τs .1 .1 .1 .0, tt)) (E .lives, (S .lives, tt)) (Logic.emp 𝓤) (⊑-refl (E .lives), (h .1 .1 .1 .0, tt)))
+          (λ τs x y r.
+            Impl.hidden 4 (τs .0, (a .lft, (E .lives, (τs .1 .1 .1 .0, tt)))) 𝓤 H (𝓖 .A) (len.signature E S .params) (len-own-end .kept) (true, tt) x
+            (λ ws. len.clauses E S eg ed og od sg sd 𝓤 H (𝓖 .A) (𝓜 .mem) (𝓡 .returns) (τs .0, (a .lft, (E .lives, (τs .1 .1 .1 .0, tt)))) x .ensures y r (End.outs {n = 4} (τs .0, (a .lft, (E .lives, (τs .1 .1 .1 .0, tt)))) (len-own-end .signature .params) (len-own-end .kept) x ws))
+            (λ ws. len'.clauses row E S ghosts dict eg ed og od sg sd 𝓤 H (𝓖 .A) (𝓜 .mem) (𝓡 .returns) τs x .ensures y r (End.outs {n = 4} τs (len-asked-end .signature .params) (len-asked-end .kept) x ws))
+            (λ _. search ends depth 24 fits 20000))
+          (Table.widened 𝓤 H (Spec.tripleOf 𝓤 H (𝓖 .A) (len.signature E S) len-own) 𝓜 𝓡 γ (γ (Symbol.name bounds)) (γ len-at) (Symbol.as-method γ len-wired len-at refl)
+          (Met.met 𝓤 H 𝓜 𝓖 (Running.within 𝓤 H 𝓜 𝓡 γ) len-wired E S E-laws S-laws E-copy S-copy eg ed og od sg sd element ordered sum-ordered));
+      tell =
+          Impl.implements 𝓤 H (𝓖 .A) (tell.signature E S) 4 (tell-asked-end .signature .outlives)
+          (λ τs. (τs .0, (a .lft, (E .lives, (τs .1 .1 .1 .0, tt)))))
+          (Running.givenOf 𝓤 H 𝓜 𝓖) (𝓡 .run (γ tell-at)) (Table.run-framed 𝓤 H 𝓜 𝓡 (γ tell-at)) tell-own
+          (λ τs x. record { ghost = tell-asked τs x .ghost; requires = λ y. tell-asked τs x .requires y; ensures = tell-asked τs x .ensures })
           3
-          (λ τs'13. (τs'13 .1 .0, (τs'13 .1 .1 .0, (τs'13 .1 .1 .1 .0, tt))))
-          (λ τs'14. (
-            LiveCount.the-row x'27 (Param.copied 0 x'17) .lives,
-            (x'17 .lives, (x'18 .lives, tt)),
-          ))
+          (λ τs. (τs .1 .0, (τs .1 .1 .0, (τs .1 .1 .1 .0, tt))))
+          (λ τs. (row .lives, (E .lives, (S .lives, tt))))
           ((0, tt), ((1, tt), ((1, tt), ((3, tt), tt))))
-          (λ τs'15 a'8 y'8. Logic.emp 𝓤')
-          (λ τs'16 a'9 y'9. Logic.id⊢ 𝓤' (tell'.spec (LiveCount.the-row x'27 (Param.copied 0 x'17))
-          x'17 x'18 (the-impl.ghosts x'17 x'18 E·Element' E·Element·dict' E·Ordered'
-          E·Ordered·dict' Sum·Ordered' Sum·Ordered·dict') (the-impl.dict x'17 x'18 E·Element'
-          E·Element·dict' E·Ordered' E·Ordered·dict' Sum·Ordered' Sum·Ordered·dict') E·Element'
-          E·Element·dict' E·Ordered' E·Ordered·dict' Sum·Ordered' Sum·Ordered·dict' 𝓤' H' (𝓖' .A)
-          (𝓜' .mem) (𝓡' .returns) τs'16 a'9 .requires y'9))
-          (λ τs'17 h'3. (
+          (λ τs x y. Logic.emp 𝓤)
+          (λ τs x y. Logic.id⊢ 𝓤 (tell-asked τs x .requires y))
+          (λ τs h.
+            let here : _⊑_ (τs .1 .0) (a .lft) = ⊑-trans (τs .1 .0) (row .lives) (a .lft) (h .1 .0) (search Impl.inside depth 24 fits 20000) in
+            let there : _⊑_ (τs .1 .0) (E .lives) = ⊑-trans (τs .1 .0) (row .lives) (E .lives) (h .1 .0) (search Impl.inside depth 24 fits 20000) in
             (
-              BorrowLft.⊑-refl (τs'17 .0),
-              (
-                BorrowLft.⊑-trans (τs'17 .1 .0) (τs'17 .1 .0) (x'27 .lft) (BorrowLft.⊑-refl
-                    (τs'17 .1 .0)) (BorrowLft.⊑-trans (τs'17 .1 .0) (LiveCount.the-row x'27
-                    (Param.copied 0 x'17) .lives) (x'27 .lft) (h'3 .1 .0)
-                    (search Impl.inside depth 24 fits 20000)),
-                (
-                  BorrowLft.⊑-trans (τs'17 .1 .0) (τs'17 .1 .0) (x'17 .lives) (BorrowLft.⊑-refl
-                      (τs'17 .1 .0)) (BorrowLft.⊑-trans (τs'17 .1 .0) (LiveCount.the-row x'27
-                      (Param.copied 0 x'17) .lives) (x'17 .lives) (h'3 .1 .0)
-                      (search Impl.inside depth 24 fits 20000)),
-                  (BorrowLft.⊑-refl (τs'17 .1 .1 .1 .0), tt),
-                ),
-              ),
-            ),
-            (
-              BorrowLft.⊑-trans (τs'17 .0) (τs'17 .1 .0) (x'27 .lft) (BorrowLft.⊑-trans (τs'17 .0)
-                  (τs'17 .0) (τs'17 .1 .0) (BorrowLft.⊑-refl (τs'17 .0)) (h'3 .0 .0))
-                  (BorrowLft.⊑-trans (τs'17 .1 .0) (LiveCount.the-row x'27 (Param.copied 0
-                  x'17) .lives) (x'27 .lft) (h'3 .1 .0) (search Impl.inside depth 24 fits 20000)),
-              (
-                BorrowLft.⊑-trans (τs'17 .0) (τs'17 .1 .0) (x'17 .lives) (BorrowLft.⊑-trans
-                    (τs'17 .0) (τs'17 .0) (τs'17 .1 .0) (BorrowLft.⊑-refl (τs'17 .0)) (h'3 .0 .0))
-                    (BorrowLft.⊑-trans (τs'17 .1 .0) (LiveCount.the-row x'27 (Param.copied 0
-                    x'17) .lives) (x'17 .lives) (h'3 .1 .0)
-                    (search Impl.inside depth 24 fits 20000)),
-                (
-                  BorrowLft.⊑-trans (x'27 .lft) (x'27 .lft) (x'17 .lives) (BorrowLft.⊑-refl
-                      (x'27 .lft)) x'23,
-                  tt,
-                ),
-              ),
-            ),
-          ))
-          (λ τs'18 a'10 y'10. y'10)
-          (λ τs'19 h'4 a'11 y'11. Impl.insides-in 𝓤' 2 (x'17 .lives, (τs'19 .1 .1 .1 .0, tt)) (
-            x'17 .lives,
-            (x'18 .lives, tt),
-          ) (Logic.emp 𝓤') (
-            BorrowLft.⊑-refl (x'17 .lives),
-            (
-              BorrowLft.⊑-trans (τs'19 .1 .1 .1 .0) (x'18 .lives) (x'18 .lives) (h'4 .1 .1 .1 .0)
-                  (search Impl.inside depth 24 fits 20000),
-              tt,
-            ),
-          ))
-          (λ τs'20 a'12 y'12 r''. Impl.hidden 4
-          (τs'20 .0, (x'27 .lft, (x'17 .lives, (τs'20 .1 .1 .1 .0, tt)))) 𝓤' H' (𝓖' .A)
-          (tell.signature x'17 x'18 .params) (tell.ended x'17 x'18 E·Element' E·Element·dict'
-          E·Ordered' E·Ordered·dict' Sum·Ordered' Sum·Ordered·dict' .kept)
-          (Bool.true, (Bool.true, tt)) a'12 (λ ws'3. tell.clauses x'17 x'18 E·Element'
-          E·Element·dict' E·Ordered' E·Ordered·dict' Sum·Ordered' Sum·Ordered·dict' 𝓤' H' (𝓖' .A)
-          (𝓜' .mem) (𝓡' .returns)
-          (τs'20 .0, (x'27 .lft, (x'17 .lives, (τs'20 .1 .1 .1 .0, tt)))) a'12 .ensures y'12
-          r'' (End.outs {n = 4} (τs'20 .0, (x'27 .lft, (x'17 .lives, (τs'20 .1 .1 .1 .0, tt))))
-          (tell.ended x'17 x'18 E·Element' E·Element·dict' E·Ordered' E·Ordered·dict' Sum·Ordered'
-          Sum·Ordered·dict' .signature .params) (tell.ended x'17 x'18 E·Element' E·Element·dict'
-          E·Ordered' E·Ordered·dict' Sum·Ordered' Sum·Ordered·dict' .kept) a'12 ws'3))
-          (λ ws'4. tell'.clauses (LiveCount.the-row x'27 (Param.copied 0 x'17)) x'17 x'18
-          (the-impl.ghosts x'17 x'18 E·Element' E·Element·dict' E·Ordered' E·Ordered·dict'
-          Sum·Ordered' Sum·Ordered·dict') (the-impl.dict x'17 x'18 E·Element' E·Element·dict'
-          E·Ordered' E·Ordered·dict' Sum·Ordered' Sum·Ordered·dict') E·Element' E·Element·dict'
-          E·Ordered' E·Ordered·dict' Sum·Ordered' Sum·Ordered·dict' 𝓤' H' (𝓖' .A) (𝓜' .mem)
-          (𝓡' .returns) τs'20 a'12 .ensures y'12 r'' (End.outs {n = 4} τs'20 (tell'.ended
-          (LiveCount.the-row x'27 (Param.copied 0 x'17)) x'17 x'18 (the-impl.ghosts x'17 x'18
-          E·Element' E·Element·dict' E·Ordered' E·Ordered·dict' Sum·Ordered' Sum·Ordered·dict')
-          (the-impl.dict x'17 x'18 E·Element' E·Element·dict' E·Ordered' E·Ordered·dict'
-          Sum·Ordered' Sum·Ordered·dict') E·Element' E·Element·dict' E·Ordered' E·Ordered·dict'
-          Sum·Ordered' Sum·Ordered·dict' .signature .params) (tell'.ended (LiveCount.the-row x'27
-          (Param.copied 0 x'17)) x'17 x'18 (the-impl.ghosts x'17 x'18 E·Element' E·Element·dict'
-          E·Ordered' E·Ordered·dict' Sum·Ordered' Sum·Ordered·dict') (the-impl.dict x'17 x'18
-          E·Element' E·Element·dict' E·Ordered' E·Ordered·dict' Sum·Ordered' Sum·Ordered·dict')
-          E·Element' E·Element·dict' E·Ordered' E·Ordered·dict' Sum·Ordered'
-          Sum·Ordered·dict' .kept) a'12 ws'4)) λ x'29. search ends depth 24 fits 20000)
-          (Table.widened 𝓤' H' (Spec.tripleOf 𝓤' H' (𝓖' .A) (tell.signature x'17 x'18) (tell.spec
-          x'17 x'18 E·Element' E·Element·dict' E·Ordered' E·Ordered·dict' Sum·Ordered'
-          Sum·Ordered·dict' 𝓤' H' (𝓖' .A) (𝓜' .mem) (𝓡' .returns))) 𝓜' 𝓡' γ″' (γ″' (Symbol'.name
-          (Param.bounded (List._∷_ Syntax.aType (List._∷_ Syntax.aType List.[]))
-          (x'17, (x'18, tt)) (Syntax.dcons E·Element·dict' (Syntax.dcons E·Ordered·dict'
-          (Syntax.dcons Sum·Ordered·dict' Syntax.dnil)))))) (γ″' (Syntax.method (the-impl.dict x'17
-          x'18 E·Element' E·Element·dict' E·Ordered' E·Ordered·dict' Sum·Ordered'
-          Sum·Ordered·dict') 1 (Param.layouts List.[] tt))) (Symbol'.as-method γ″' x'15
-          (Syntax.method (the-impl.dict x'17 x'18 E·Element' E·Element·dict' E·Ordered'
-          E·Ordered·dict' Sum·Ordered' Sum·Ordered·dict') 1 (Param.layouts List.[] tt)) Path'.refl)
-          (Met'.met 𝓤' H' 𝓜' 𝓖' (Running.within 𝓤' H' 𝓜' 𝓡' γ″') x'15 x'17 x'18 x'19 x'20 x'21 x'22
-          E·Element' E·Element·dict' E·Ordered' E·Ordered·dict' Sum·Ordered' Sum·Ordered·dict' x'24
-          x'25 x'26));
+              (⊑-refl (τs .0), (here, (there, (⊑-refl (τs .1 .1 .1 .0), tt)))),
+              (⊑-trans (τs .0) (τs .1 .0) (a .lft) (h .0 .0) here, (⊑-trans (τs .0) (τs .1 .0) (E .lives) (h .0 .0) there, (outlives, tt))),
+            ))
+          (λ τs x y. y)
+          (λ τs h x y. Impl.insides-in 𝓤 2 (E .lives, (τs .1 .1 .1 .0, tt)) (E .lives, (S .lives, tt)) (Logic.emp 𝓤) (⊑-refl (E .lives), (h .1 .1 .1 .0, tt)))
+          (λ τs x y r.
+            Impl.hidden 4 (τs .0, (a .lft, (E .lives, (τs .1 .1 .1 .0, tt)))) 𝓤 H (𝓖 .A) (tell.signature E S .params) (tell-own-end .kept) (true, (true, tt)) x
+            (λ ws. tell.clauses E S eg ed og od sg sd 𝓤 H (𝓖 .A) (𝓜 .mem) (𝓡 .returns) (τs .0, (a .lft, (E .lives, (τs .1 .1 .1 .0, tt)))) x .ensures y r (End.outs {n = 4} (τs .0, (a .lft, (E .lives, (τs .1 .1 .1 .0, tt)))) (tell-own-end .signature .params) (tell-own-end .kept) x ws))
+            (λ ws. tell'.clauses row E S ghosts dict eg ed og od sg sd 𝓤 H (𝓖 .A) (𝓜 .mem) (𝓡 .returns) τs x .ensures y r (End.outs {n = 4} τs (tell-asked-end .signature .params) (tell-asked-end .kept) x ws))
+            (λ _. search ends depth 24 fits 20000))
+          (Table.widened 𝓤 H (Spec.tripleOf 𝓤 H (𝓖 .A) (tell.signature E S) tell-own) 𝓜 𝓡 γ (γ (Symbol'.name bounds)) (γ tell-at) (Symbol'.as-method γ tell-wired tell-at refl)
+          (Met'.met 𝓤 H 𝓜 𝓖 (Running.within 𝓤 H 𝓜 𝓡 γ) tell-wired E S E-laws S-laws E-copy S-copy eg ed og od sg sd element ordered sum-ordered));
     }
