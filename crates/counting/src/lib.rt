@@ -1,16 +1,22 @@
-// Counting rows: the true claim of each statistic, row after row.
+// Counting rows: the true claim of each statistic, in one pass.
+ghost use mathlib.Core.Path.{_≡_};
+ghost use denote.Ref.{now as current};
 ghost use Rattle.rules.specs.Column.{column};
+ghost use Rattle.rules.specs.Counting.{counted};
 ghost use Rattle.set.specs.Viewed.{entries};
 ghost use Rattle.counting.specs.Counted.{Counts};
 use rules::element::Element;
+use rules::provider::StatsProvider;
+use rules::statement::Statement;
 use set::stats_set::StatsSet;
+use set::stats_set::methods::SetProvider;
 use tally::Tally;
 use tally::TallyClone;
 
 mod tally;
 
-// The statistics of the rows, by rising number, each with its exact claim. Without an element there is no least and no
-// greatest, a sum only while it fits, and a size only below 2^64.
+// The statistics of the rows by rising number, each with its exact claim. Without an element there is no greatest and no
+// least, where a running total does not fit no sum, and at 2^64 or more no size.
 pub fn count<E: Element>(rows: &[Option<E>]) -> StatsSet<E, E::Sum>
     ensures { λ r. ⌜ Counts (column (E·Ordered .order) (Sum·Ordered .order) (E·Element .sums)) (now (rows .entry)) (entries (E·Element .sums .has-sums) r) ⌝ }
 {
@@ -19,4 +25,32 @@ pub fn count<E: Element>(rows: &[Option<E>]) -> StatsSet<E, E::Sum>
         tally = tally.fed(*row);
     }
     tally.set(rows.len() as u64)
+}
+
+// Tells what counting the rows gives.
+#[derive(Drop)]
+pub struct LiveCount<'a, E> {
+    rows: &'a [Option<E>],
+}
+
+impl<'a, E: Element> LiveCount<'a, E> {
+    pub fn new(rows: &'a [Option<E>]) -> Self
+        ensures { λ r. ⌜ now (r .rows) ≡ now (rows .entry) ⌝ }
+    {
+        LiveCount { rows }
+    }
+}
+
+pub impl<'a, E: Element> StatsProvider<E> for LiveCount<'a, E> as LiveCountProvider {
+    ghost told = { λ p. counted (column (E·Ordered .order) (Sum·Ordered .order) (E·Element .sums)) (current (p .rows)) };
+
+    fn len(&mut self) -> usize {
+        let mut set = count(self.rows);
+        set.len()
+    }
+
+    fn tell(&mut self, place: usize) -> Option<Statement<E, E::Sum>> {
+        let mut set = count(self.rows);
+        set.tell(place)
+    }
 }
