@@ -337,3 +337,8 @@ module _ {V S : Type 0} (c : Claims V S) where
   nth-none [] i e = refl
   nth-none (t ∷ ts) zero e = let z : _≡_ {A = ℕ} 0 1 = cc in absurd (omega arith)
   nth-none (t ∷ ts) (suc i) e = nth-none ts i e
+
+-- two tests that agree keep the same
+pub retained-same : {V S : Type 0} (es : Entries V S) (p q : Stat → Bool) → ((t : Stat) → p t ≡ q t) → retained p es ≡ retained q es
+retained-same [] p q h = refl
+retained-same (e ∷ es) p q h = λ i. cond (h (e .stat) i) (e ∷ retained-same es p q h i) (retained-same es p q h i)

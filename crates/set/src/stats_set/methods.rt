@@ -1,7 +1,7 @@
 // What can be done with a set. Its meaning is the list of its entries, in the order of first setting.
 ghost use mathlib.Core.Path.{_≡_};
 ghost use mathlib.Core.Bool.{true, false, cond, not};
-ghost use mathlib.Core.List.{[], _∷_, _++_};
+ghost use mathlib.Core.List.{List, [], _∷_, _++_};
 ghost use lib.Dec.{eqb, ltb};
 ghost use lib.ListN.{length};
 ghost use Rattle.std.specs.declared.option.Option.the-variants.{None as Nothing};
@@ -15,6 +15,9 @@ ghost use Rattle.listing.specs.Nines.{nth-nine};
 ghost use Rattle.precision.specs.Claims.{is-absent};
 ghost use Rattle.refusal.specs.Refusals.{refused, declined};
 ghost use Rattle.claims.specs.Entries.{claim-in, has-stat, counts};
+ghost use Rattle.rules.specs.Column.{column};
+ghost use Rattle.rules.specs.Rows.{Row};
+ghost use Rattle.rules.specs.Truth.{AllHold};
 ghost use Rattle.rules.specs.Claims.{takes, may-set};
 ghost use Rattle.rules.specs.Sets.{got, put, without, retained};
 ghost use Rattle.set.specs.Viewed.{entries};
@@ -106,16 +109,18 @@ impl<E: Element> StatsSet<E, E::Sum> {
         order
     }
 
-    // Removes the entry of a statistic; the others keep their order.
+    // Removes the entry of a statistic; the others keep their order, and what was true stays true.
     pub fn clear(&mut self, stat: Stat)
-        ensures { λ _. ⌜ entries (E·Element .sums .has-sums) (now (self .exit)) ≡ without (entries (E·Element .sums .has-sums) (now (self .entry))) stat ⌝ }
+        ensures after { λ _. ⌜ entries (E·Element .sums .has-sums) (now (self .exit)) ≡ without (entries (E·Element .sums .has-sums) (now (self .entry))) stat ⌝ }
+        ensures truth { λ _. ⌜ ((rows : List (Row E)) → AllHold (column (E·Ordered .order) (Sum·Ordered .order) (E·Element .sums)) rows (entries (E·Element .sums .has-sums) (now (self .entry))) → AllHold (column (E·Ordered .order) (Sum·Ordered .order) (E·Element .sums)) rows (entries (E·Element .sums .has-sums) (now (self .exit)))) ⌝ }
     {
         self.keep(&all_but(stat));
     }
 
-    // Removes the entries that are not named; the others keep their order.
+    // Removes the entries that are not named; the others keep their order, and what was true stays true.
     pub fn retain_only(&mut self, stats: &[Stat])
-        ensures { λ _. ⌜ entries (E·Element .sums .has-sums) (now (self .exit)) ≡ retained (has-stat (now (stats .entry))) (entries (E·Element .sums .has-sums) (now (self .entry))) ⌝ }
+        ensures after { λ _. ⌜ entries (E·Element .sums .has-sums) (now (self .exit)) ≡ retained (has-stat (now (stats .entry))) (entries (E·Element .sums .has-sums) (now (self .entry))) ⌝ }
+        ensures truth { λ _. ⌜ ((rows : List (Row E)) → AllHold (column (E·Ordered .order) (Sum·Ordered .order) (E·Element .sums)) rows (entries (E·Element .sums .has-sums) (now (self .entry))) → AllHold (column (E·Ordered .order) (Sum·Ordered .order) (E·Element .sums)) rows (entries (E·Element .sums .has-sums) (now (self .exit)))) ⌝ }
     {
         self.keep(&only(stats));
     }

@@ -64,19 +64,18 @@ bound γ len-wired tell-wired κ E S E-laws S-laws E-copy S-copy outlives eg ed 
           (λ τs x y. Logic.emp 𝓤)
           (λ τs x y. Logic.id⊢ 𝓤 (len-asked τs x .requires y))
           (λ τs h.
-            let here : _⊑_ (τs .1 .0) (a .lft) = ⊑-trans (τs .1 .0) (row .lives) (a .lft) (h .1 .0) (search Impl.inside depth 24 fits 20000) in
-            let there : _⊑_ (τs .1 .0) (E .lives) = ⊑-trans (τs .1 .0) (row .lives) (E .lives) (h .1 .0) (search Impl.inside depth 24 fits 20000) in
-            (
-              (⊑-refl (τs .0), (here, (there, (⊑-refl (τs .1 .1 .1 .0), tt)))),
-              (⊑-trans (τs .0) (τs .1 .0) (a .lft) (h .0 .0) here, (⊑-trans (τs .0) (τs .1 .0) (E .lives) (h .0 .0) there, (outlives, tt))),
-            ))
+          let here : _⊑_ (τs .1 .0) (a .lft) = ⊑-trans (τs .1 .0) (row .lives) (a .lft) (h .1 .0) (search Impl.inside depth 24 fits 20000) in
+          let there : _⊑_ (τs .1 .0) (E .lives) = ⊑-trans (τs .1 .0) (row .lives) (E .lives) (h .1 .0) (search Impl.inside depth 24 fits 20000) in (
+            (⊑-refl (τs .0), (here, (there, (⊑-refl (τs .1 .1 .1 .0), tt)))),
+            (⊑-trans (τs .0) (τs .1 .0) (a .lft) (h .0 .0) here, (⊑-trans (τs .0) (τs .1 .0) (E .lives) (h .0 .0) there, (outlives, tt))),
+          ))
           (λ τs x y. y)
           (λ τs h x y. Impl.insides-in 𝓤 2 (E .lives, (τs .1 .1 .1 .0, tt)) (E .lives, (S .lives, tt)) (Logic.emp 𝓤) (⊑-refl (E .lives), (h .1 .1 .1 .0, tt)))
           (λ τs x y r.
-            Impl.hidden 4 (τs .0, (a .lft, (E .lives, (τs .1 .1 .1 .0, tt)))) 𝓤 H (𝓖 .A) (len.signature E S .params) (len-own-end .kept) (true, tt) x
-            (λ ws. len.clauses E S eg ed og od sg sd 𝓤 H (𝓖 .A) (𝓜 .mem) (𝓡 .returns) (τs .0, (a .lft, (E .lives, (τs .1 .1 .1 .0, tt)))) x .ensures y r (End.outs {n = 4} (τs .0, (a .lft, (E .lives, (τs .1 .1 .1 .0, tt)))) (len-own-end .signature .params) (len-own-end .kept) x ws))
-            (λ ws. len'.clauses row E S ghosts dict eg ed og od sg sd 𝓤 H (𝓖 .A) (𝓜 .mem) (𝓡 .returns) τs x .ensures y r (End.outs {n = 4} τs (len-asked-end .signature .params) (len-asked-end .kept) x ws))
-            (λ _. search ends depth 24 fits 20000))
+          Impl.hidden 4 (τs .0, (a .lft, (E .lives, (τs .1 .1 .1 .0, tt)))) 𝓤 H (𝓖 .A) (len.signature E S .params) (len-own-end .kept) (true, tt) x
+          (λ ws. len.clauses E S eg ed og od sg sd 𝓤 H (𝓖 .A) (𝓜 .mem) (𝓡 .returns) (τs .0, (a .lft, (E .lives, (τs .1 .1 .1 .0, tt)))) x .ensures y r (End.outs {n = 4} (τs .0, (a .lft, (E .lives, (τs .1 .1 .1 .0, tt)))) (len-own-end .signature .params) (len-own-end .kept) x ws))
+          (λ ws. len'.clauses row E S ghosts dict eg ed og od sg sd 𝓤 H (𝓖 .A) (𝓜 .mem) (𝓡 .returns) τs x .ensures y r (End.outs {n = 4} τs (len-asked-end .signature .params) (len-asked-end .kept) x ws))
+          (λ _. search ends depth 24 fits 20000))
           (Table.widened 𝓤 H (Spec.tripleOf 𝓤 H (𝓖 .A) (len.signature E S) len-own) 𝓜 𝓡 γ (γ (Symbol.name bounds)) (γ len-at) (Symbol.as-method γ len-wired len-at refl)
           (Met.met 𝓤 H 𝓜 𝓖 (Running.within 𝓤 H 𝓜 𝓡 γ) len-wired E S E-laws S-laws E-copy S-copy eg ed og od sg sd element ordered sum-ordered));
       tell =
@@ -91,19 +90,18 @@ bound γ len-wired tell-wired κ E S E-laws S-laws E-copy S-copy outlives eg ed 
           (λ τs x y. Logic.emp 𝓤)
           (λ τs x y. Logic.id⊢ 𝓤 (tell-asked τs x .requires y))
           (λ τs h.
-            let here : _⊑_ (τs .1 .0) (a .lft) = ⊑-trans (τs .1 .0) (row .lives) (a .lft) (h .1 .0) (search Impl.inside depth 24 fits 20000) in
-            let there : _⊑_ (τs .1 .0) (E .lives) = ⊑-trans (τs .1 .0) (row .lives) (E .lives) (h .1 .0) (search Impl.inside depth 24 fits 20000) in
-            (
-              (⊑-refl (τs .0), (here, (there, (⊑-refl (τs .1 .1 .1 .0), tt)))),
-              (⊑-trans (τs .0) (τs .1 .0) (a .lft) (h .0 .0) here, (⊑-trans (τs .0) (τs .1 .0) (E .lives) (h .0 .0) there, (outlives, tt))),
-            ))
+          let here : _⊑_ (τs .1 .0) (a .lft) = ⊑-trans (τs .1 .0) (row .lives) (a .lft) (h .1 .0) (search Impl.inside depth 24 fits 20000) in
+          let there : _⊑_ (τs .1 .0) (E .lives) = ⊑-trans (τs .1 .0) (row .lives) (E .lives) (h .1 .0) (search Impl.inside depth 24 fits 20000) in (
+            (⊑-refl (τs .0), (here, (there, (⊑-refl (τs .1 .1 .1 .0), tt)))),
+            (⊑-trans (τs .0) (τs .1 .0) (a .lft) (h .0 .0) here, (⊑-trans (τs .0) (τs .1 .0) (E .lives) (h .0 .0) there, (outlives, tt))),
+          ))
           (λ τs x y. y)
           (λ τs h x y. Impl.insides-in 𝓤 2 (E .lives, (τs .1 .1 .1 .0, tt)) (E .lives, (S .lives, tt)) (Logic.emp 𝓤) (⊑-refl (E .lives), (h .1 .1 .1 .0, tt)))
           (λ τs x y r.
-            Impl.hidden 4 (τs .0, (a .lft, (E .lives, (τs .1 .1 .1 .0, tt)))) 𝓤 H (𝓖 .A) (tell.signature E S .params) (tell-own-end .kept) (true, (true, tt)) x
-            (λ ws. tell.clauses E S eg ed og od sg sd 𝓤 H (𝓖 .A) (𝓜 .mem) (𝓡 .returns) (τs .0, (a .lft, (E .lives, (τs .1 .1 .1 .0, tt)))) x .ensures y r (End.outs {n = 4} (τs .0, (a .lft, (E .lives, (τs .1 .1 .1 .0, tt)))) (tell-own-end .signature .params) (tell-own-end .kept) x ws))
-            (λ ws. tell'.clauses row E S ghosts dict eg ed og od sg sd 𝓤 H (𝓖 .A) (𝓜 .mem) (𝓡 .returns) τs x .ensures y r (End.outs {n = 4} τs (tell-asked-end .signature .params) (tell-asked-end .kept) x ws))
-            (λ _. search ends depth 24 fits 20000))
+          Impl.hidden 4 (τs .0, (a .lft, (E .lives, (τs .1 .1 .1 .0, tt)))) 𝓤 H (𝓖 .A) (tell.signature E S .params) (tell-own-end .kept) (true, (true, tt)) x
+          (λ ws. tell.clauses E S eg ed og od sg sd 𝓤 H (𝓖 .A) (𝓜 .mem) (𝓡 .returns) (τs .0, (a .lft, (E .lives, (τs .1 .1 .1 .0, tt)))) x .ensures y r (End.outs {n = 4} (τs .0, (a .lft, (E .lives, (τs .1 .1 .1 .0, tt)))) (tell-own-end .signature .params) (tell-own-end .kept) x ws))
+          (λ ws. tell'.clauses row E S ghosts dict eg ed og od sg sd 𝓤 H (𝓖 .A) (𝓜 .mem) (𝓡 .returns) τs x .ensures y r (End.outs {n = 4} τs (tell-asked-end .signature .params) (tell-asked-end .kept) x ws))
+          (λ _. search ends depth 24 fits 20000))
           (Table.widened 𝓤 H (Spec.tripleOf 𝓤 H (𝓖 .A) (tell.signature E S) tell-own) 𝓜 𝓡 γ (γ (Symbol'.name bounds)) (γ tell-at) (Symbol'.as-method γ tell-wired tell-at refl)
           (Met'.met 𝓤 H 𝓜 𝓖 (Running.within 𝓤 H 𝓜 𝓡 γ) tell-wired E S E-laws S-laws E-copy S-copy eg ed og od sg sd element ordered sum-ordered));
     }

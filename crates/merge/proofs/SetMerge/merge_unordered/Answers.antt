@@ -16,4 +16,4 @@ returns g c =
     let b = entries sums (c .args .other .now) in
     merge-owed k laws false (entries sums (c .args .self .now)) b _ (set-proper sums (c .args .self .now) .settable)
     (steps-done (λ a s. put a s (rule k false a b s)) (entries sums (c .args .self .now)) _ _ _ _ _ _ _ _ _
-    (c .merge-is-constant .ensures) (c .clear .ensures) (c .clear-2 .ensures) (c .merge-max .ensures) (c .merge-min .ensures) (c .merge-sum .ensures) (c .merge-null-count .ensures) (c .merge-uncompressed-size-in-bytes .ensures) (c .merge-nan-count .ensures))
+    (c .merge-is-constant .ensures) (c .clear .ensures .after) (c .clear-2 .ensures .after) (c .merge-max .ensures) (c .merge-min .ensures) (c .merge-sum .ensures) (c .merge-null-count .ensures) (c .merge-uncompressed-size-in-bytes .ensures) (c .merge-nan-count .ensures))
