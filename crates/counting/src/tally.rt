@@ -25,28 +25,28 @@ use std::cmp::Ordering;
 
 // The least, the greatest and the last element so far.
 #[derive(Clone, Copy)]
-pub struct Seen<E> {
-    pub least: E,
-    pub most: E,
-    pub last: E,
+pub(crate) struct Seen<E> {
+    least: E,
+    most: E,
+    last: E,
 }
 
 #[derive(Clone, Copy)]
-pub struct Tally<E, S> {
+pub(crate) struct Tally<E, S> {
     // nothing while every row was null
-    pub seen: Option<Seen<E>>,
+    seen: Option<Seen<E>>,
     // whether the elements never fell
-    pub sorted: bool,
+    sorted: bool,
     // whether they always rose
-    pub strict: bool,
-    pub nulls: u64,
+    strict: bool,
+    nulls: u64,
     // nothing once a running total did not fit
-    pub sum: Option<S>,
+    sum: Option<S>,
 }
 
 impl<E: Element> Tally<E, E::Sum> {
     // Before the first row.
-    pub fn start() -> Self
+    pub(crate) fn start() -> Self
         ensures { λ r. ⌜ r ≡ fresh (E·Element .sums) ⌝ }
     {
         Tally {
@@ -59,7 +59,7 @@ impl<E: Element> Tally<E, E::Sum> {
     }
 
     // One row more.
-    pub fn fed(self, row: Option<E>) -> Self
+    pub(crate) fn fed(self, row: Option<E>) -> Self
         requires { ⌜ self .nulls + 1 < 2 ^ 64 ⌝ }
         ensures { λ r. ⌜ r ≡ with-row (E·Ordered .order) (E·Element .sums) self row ⌝ }
     {
@@ -82,7 +82,7 @@ impl<E: Element> Tally<E, E::Sum> {
     }
 
     // The set of the nine claims, for so many rows.
-    pub fn set(self, rows: u64) -> StatsSet<E, E::Sum>
+    pub(crate) fn set(self, rows: u64) -> StatsSet<E, E::Sum>
         ensures { λ r. ⌜ entries (E·Element .sums .has-sums) r ≡ all-put (tally-claim (E·Ordered .order) (E·Element .sums) self rows) all-stats ⌝ }
     {
         let mut set = StatsSet::<E, E::Sum>::new();
