@@ -1,6 +1,6 @@
 -- Filling a set with the claims of a tally, and what counting owes by that.
 use mathlib.Core.Path.{_≡_, refl, sym, ap, ap₂, subst, _∙_}
-use mathlib.Core.Bool.{Bool, true, false, cond}
+use mathlib.Core.Bool.{Bool, true, false, cond, _&&_}
 use mathlib.Core.List.{List, [], _∷_}
 use Prim.Native.Nat.{ℕ, _+_, _*_, _^_, _<_, _≤_}
 use native.Mathlib.Omega.{arith}
@@ -21,14 +21,15 @@ use Rattle.stat.specs.Stats.{all-stats}
 use Rattle.rules.specs.declared.statement.StatValue.{StatValue}
 use Rattle.rules.specs.declared.statement.StatValue.the-variants.{Flag, Element, Sum, Count}
 use Rattle.rules.specs.Column.{Column, ColumnLaws, Sums}
-use Rattle.rules.specs.Rows.{Row}
-use Rattle.rules.specs.Claims.{Claim, takes, may-set}
-use Rattle.rules.specs.Truth.{AllHold}
+use Rattle.rules.specs.Rows.{Row, elements}
+use Rattle.rules.specs.Claims.{Claim, some?, takes, may-set}
+use Rattle.rules.specs.Truth.{Tells, AllHold}
 use Rattle.rules.specs.Merging.{exactly}
-use Rattle.rules.specs.Sets.{Entries, put, stats-of}
-use Rattle.rules.specs.Counting.{counted-claim, counted}
-use Rattle.rules.proofs.Counted.{counted-stats}
+use Rattle.rules.specs.Sets.{Entries, put, stats-of, has}
+use Rattle.rules.specs.Counting.{counted-claim, counted, summed, RunningFits}
+use Rattle.rules.proofs.Counted.{counted-stats, counted-has}
 use Rattle.rules.proofs.Counting.{counted-holds}
+use Rattle.rules.proofs.Totals.{running-told}
 use Rattle.counting.specs.declared.tally.Tally.{Tally}
 use Rattle.counting.specs.Tallied.{least-of, most-of, fresh, with-row, tally-claim, all-put}
 use Rattle.counting.specs.Counted.{Counts}
@@ -80,7 +81,7 @@ put-same f g e (s ∷ ss) es = put-same f g e ss (put es s (f s)) ∙ ap (λ c. 
 pub counting-owed : {V S : Type 0} (k : Column V S) → ColumnLaws k → (rows : List (Row V)) (t : Tally V S) (es : Entries V S) → t ≡ run k (fresh (k .sums)) rows → es ≡ all-put (tally-claim (k .order) (k .sums) t (length rows)) all-stats → Counts k rows es
 counting-owed k laws rows t es e f =
     let value : es ≡ counted k rows = f ∙ ap (λ u. all-put (tally-claim (k .order) (k .sums) u (length rows)) all-stats) e ∙ put-same (tally-claim (k .order) (k .sums) (run k (fresh (k .sums)) rows) (length rows)) (counted-claim k rows) (tally-is k laws rows) all-stats [] in
-    record { value = value; truth = subst (AllHold k rows) (sym value) (counted-holds k laws rows); which = ap stats-of value ∙ counted-stats k rows }
+    record { value = value; truth = subst (AllHold k rows) (sym value) (counted-holds k laws rows); which = ap stats-of value ∙ counted-stats k rows; fits = λ e. subst (Tells (RunningFits k (elements rows))) (sym (ap (λ es. has es Total) value ∙ counted-has k rows Total ∙ ap (λ b. b && some? (summed k (Some (k .sums .zero)) (elements rows))) e)) (running-told k (laws .summed e) (elements rows)) }
 
 -- one row more leaves as many nulls, or has one more
 nulls-fed : {V S : Type 0} (k : Column V S) (t : Tally V S) (row : Row V) → with-row (k .order) (k .sums) t row .nulls ≤ t .nulls + 1
