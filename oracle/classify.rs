@@ -1,13 +1,18 @@
-//! classify REQUESTS RUST PROGRAM MODEL: compares the answers of the published Rust and of a program, line
+//! classify REQUESTS RUST PROGRAM MODEL SAMPLE: compares the answers of the published Rust and of a program, line
 //! by line, and puts each difference under a name. A name stands for one known difference. It is given only
 //! where the Rust's answer is the one that it predicts and the program's is the model's: where the Rust
 //! panics, nothing but the model checks the program. A difference without a name, an answer of the program
-//! that is not the model's, and a request that was not read are printed, and the exit status is 1.
+//! that is not the model's, and a request that was not read are printed, and the exit status is 1. Some
+//! requests are kept in the file SAMPLE, of every operation, column and named difference; before one whose
+//! answers differ stands a comment with the difference's name and the Rust's answer.
 
+use std::collections::HashMap;
 use std::fs::File;
 use std::io::BufRead;
 use std::io::BufReader;
+use std::io::BufWriter;
 use std::io::Lines;
+use std::io::Write;
 use std::process::ExitCode;
 
 use text::Claim;
@@ -176,6 +181,30 @@ fn difference(request: &Request, rust: &str, program: &str) -> Option<usize> {
     }
 }
 
+/// Every 31st request of an operation, a column and an outcome, until there are 60.
+struct Sample {
+    seen: HashMap<(usize, bool, Option<usize>), u64>,
+    file: BufWriter<File>,
+}
+
+impl Sample {
+    fn keep(&mut self, op: usize, column: Column, named: Option<usize>, text: &str, rust: &str) {
+        let seen = self
+            .seen
+            .entry((op, column == Column::Measure, named))
+            .or_default();
+        let kept = *seen % 31 == 0 && *seen / 31 < 60;
+        *seen += 1;
+        if kept {
+            let written = match named {
+                Some(name) => writeln!(self.file, "# {}, the Rust: {rust}\n{text}", DIFFERENCES[name]),
+                None => writeln!(self.file, "{text}"),
+            };
+            written.expect("the sample can be written");
+        }
+    }
+}
+
 struct Named {
     by_operation: [u64; OPERATIONS.len()],
     first: Option<String>,
@@ -192,11 +221,15 @@ fn next(lines: &mut Lines<BufReader<File>>) -> Option<String> {
 
 fn main() -> ExitCode {
     let paths: Vec<String> = std::env::args().skip(1).collect();
-    let [requests, rust, program, model] = paths.as_slice() else {
-        eprintln!("classify REQUESTS RUST PROGRAM MODEL");
+    let [requests, rust, program, model, sample] = paths.as_slice() else {
+        eprintln!("classify REQUESTS RUST PROGRAM MODEL SAMPLE");
         return ExitCode::from(2);
     };
     let (mut rust, mut program, mut model) = (open(rust), open(program), open(model));
+    let mut sample = Sample {
+        seen: HashMap::new(),
+        file: BufWriter::new(File::create(sample).expect("the sample can be written")),
+    };
     let mut same = [0u64; OPERATIONS.len()];
     let mut unnamed = [0u64; OPERATIONS.len()];
     let mut named: [Named; DIFFERENCES.len()] = std::array::from_fn(|_| Named {
@@ -246,12 +279,14 @@ fn main() -> ExitCode {
         let unread = told.iter().any(|(_, answer)| *answer == "unreadable");
         if r == p && !unread {
             same[op] += 1;
+            sample.keep(op, request.column, None, text, &r);
         } else if !unread
             && p == m
             && let Some(name) = difference(&request, &r, &p)
         {
             let entry = &mut named[name];
             entry.by_operation[op] += 1;
+            sample.keep(op, request.column, Some(name), text, &r);
             entry
                 .first
                 .get_or_insert_with(|| format!("  {text}\n    rust: {r}\n    rules: {p}"));

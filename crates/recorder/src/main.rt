@@ -13,15 +13,11 @@ use combine::CombineSets;
 use combine::SetCombine;
 use merge::MergeSets;
 use merge::SetMerge;
-use precision::precision::Precision;
 use refusal::RefusalDisplay;
 use rules::element::Element;
 use rules::provider::StatsProvider;
-use rules::statement::StatValue;
 use set::stats_set::StatsSet;
 use set::stats_set::methods::SetProvider;
-use stat::Stat;
-use stat::StatDisplay;
 use std::env;
 use std::error::AnyError;
 use std::fmt::Display;
@@ -29,6 +25,10 @@ use std::fmt::Write;
 use std::io::BufRead;
 use std::io::BufReader;
 use std::str::FromStr;
+use text::Stated;
+use text::StatedDisplay;
+use text::read_claim;
+use text::read_stat;
 
 const HELP: &str =
     "recorder: merges or combines the statistics of two zones, a request a line on standard input
@@ -46,83 +46,6 @@ contradict each other it is: refused 2 STATISTIC | SET.";
 // A set of a column that sums up to measures.
 type Zone<E> = StatsSet<E, Measure>;
 
-fn stat_named(name: &str) -> Option<Stat> {
-    for stat in Stat::all() {
-        if stat.name() == name {
-            return Some(stat);
-        }
-    }
-    None
-}
-
-fn read_flag(text: &str) -> Result<bool, &'static str> {
-    match text {
-        "true" => Ok(true),
-        "false" => Ok(false),
-        _ => Err("a flag is true or false"),
-    }
-}
-
-fn read_element<E: Element<Sum = Measure> + FromStr>(
-    text: &str,
-) -> Result<StatValue<E, Measure>, &'static str>
-where
-    E::Err: Drop,
-{
-    match E::from_str(text).ok() {
-        Some(element) => Ok(StatValue::Element(element)),
-        None => Err("the value is no element of the column"),
-    }
-}
-
-fn read_sum<E>(text: &str) -> Result<StatValue<E, Measure>, &'static str> {
-    match Measure::from_str(text) {
-        Ok(sum) => Ok(StatValue::Sum(sum)),
-        Err(_) => Err("a sum is a whole number of 64 bits"),
-    }
-}
-
-fn read_count<E>(text: &str) -> Result<StatValue<E, Measure>, &'static str> {
-    match u64::from_str(text) {
-        Ok(count) => Ok(StatValue::Count(count)),
-        Err(_) => Err("a count is a number from 0, of 64 bits"),
-    }
-}
-
-// A value of the statistic's kind.
-fn read_value<E: Element<Sum = Measure> + FromStr>(
-    stat: Stat,
-    text: &str,
-) -> Result<StatValue<E, Measure>, &'static str>
-where
-    E::Err: Drop,
-{
-    match stat {
-        Stat::IsConstant | Stat::IsSorted | Stat::IsStrictSorted => Ok(StatValue::Flag(
-            read_flag(text)?,
-        )),
-        Stat::Max | Stat::Min => read_element::<E>(text),
-        Stat::Sum => read_sum::<E>(text),
-        Stat::NullCount | Stat::UncompressedSizeInBytes | Stat::NaNCount => read_count::<E>(text),
-    }
-}
-
-fn read_claim<E: Element<Sum = Measure> + FromStr>(
-    stat: Stat,
-    text: &str,
-) -> Result<Precision<StatValue<E, Measure>>, &'static str>
-where
-    E::Err: Drop,
-{
-    if text == "{empty}" {
-        return Ok(Precision::Absent);
-    }
-    match text.strip_prefix('~') {
-        Some(value) => Ok(Precision::Inexact(read_value::<E>(stat, value)?)),
-        None => Ok(Precision::Exact(read_value::<E>(stat, text)?)),
-    }
-}
-
 fn read_set<E: Element<Sum = Measure> + FromStr>(text: &str) -> Result<Zone<E>, &'static str>
 where
     E::Err: Drop,
@@ -135,10 +58,12 @@ where
         let Some((name, claim)) = word.split_once('=') else {
             return Err("a statement is NAME=CLAIM");
         };
-        let Some(stat) = stat_named(name) else {
+        let Some(stat) = read_stat(name) else {
             return Err("there is no statistic of that name");
         };
-        let claim = read_claim::<E>(stat, claim)?;
+        let Some(claim) = read_claim::<E, Measure>(stat, claim) else {
+            return Err("the claim has no value of the statistic's kind");
+        };
         if zone.set(stat, claim).is_err() {
             return Err("this column has no such statistic");
         }
@@ -146,20 +71,7 @@ where
     Ok(zone)
 }
 
-fn write_value<E: Display + Drop>(
-    line: &mut String,
-    value: StatValue<E, Measure>,
-) -> Result<(), AnyError> {
-    match value {
-        StatValue::Flag(flag) => write!(line, "{flag}")?,
-        StatValue::Element(element) => write!(line, "{element}")?,
-        StatValue::Sum(sum) => write!(line, "{sum}")?,
-        StatValue::Count(count) => write!(line, "{count}")?,
-    }
-    Ok(())
-}
-
-fn write_set<E: Element<Sum = Measure> + Display + Drop>(
+fn write_set<E: Element<Sum = Measure> + Display>(
     line: &mut String,
     zone: &mut Zone<E>,
 ) -> Result<(), AnyError> {
@@ -167,28 +79,20 @@ fn write_set<E: Element<Sum = Measure> + Display + Drop>(
         line.push_str("-")?;
     }
     for place in 0..9usize {
-        let Some(told) = zone.tell(place) else {
+        let Some(statement) = zone.tell(place) else {
             return Ok(());
         };
         if place > 0 {
             line.push_str(" ")?;
         }
-        let stat = told.stat;
-        write!(line, "{stat}=")?;
-        match told.claim {
-            Precision::Exact(value) => write_value(line, value)?,
-            Precision::Inexact(value) => {
-                line.push_str("~")?;
-                write_value(line, value)?;
-            }
-            Precision::Absent => line.push_str("{empty}")?,
-        }
+        let stated = Stated { statement };
+        write!(line, "{stated}")?;
     }
     Ok(())
 }
 
 // One request on two sets of a column; an answer, or why it cannot be read.
-fn answer<E: Element<Sum = Measure> + FromStr + Display + Drop>(
+fn answer<E: Element<Sum = Measure> + FromStr + Display>(
     line: &mut String,
     request: &str,
     first: &str,
