@@ -1,6 +1,6 @@
 -- What counting keeps while it goes through the rows, row after row, and the claims that it comes to.
 use mathlib.Core.Bool.{Bool, true, false, cond, _&&_}
-use mathlib.Core.List.{List, []}
+use mathlib.Core.List.{List, [], _∷_}
 use Prim.Native.Nat.{ℕ, _+_, _*_, _^_}
 use lib.Dec.{eqb, ltb}
 use Rattle.std.specs.Iters.{folded}
@@ -10,7 +10,7 @@ use Rattle.std.specs.declared.option.Option.the-variants.{Some, None}
 use Rattle.order.specs.Order.{below, above, same, lesser, greater}
 use Rattle.precision.specs.declared.precision.Precision.{Precision}
 use Rattle.precision.specs.declared.precision.Precision.the-variants.{Exact, Absent}
-use Rattle.precision.specs.Claims.{mapped}
+use Rattle.precision.specs.Claims.{mapped, is-absent}
 use Rattle.stat.specs.declared.Stat.{Stat}
 use Rattle.stat.specs.declared.Stat.the-variants.{IsConstant, IsSorted, IsStrictSorted, Max, Min, Sum as Total, NullCount, UncompressedSizeInBytes, NaNCount}
 use Rattle.rules.specs.declared.statement.StatValue.the-variants.{Flag, Element, Sum, Count}
@@ -18,7 +18,7 @@ use Rattle.rules.specs.Column.{Sums}
 use Rattle.rules.specs.Rows.{Row}
 use Rattle.rules.specs.Claims.{Claim}
 use Rattle.rules.specs.Merging.{exactly}
-use Rattle.rules.specs.Sets.{Entries, put}
+use Rattle.rules.specs.Sets.{Entries, put, stated}
 use Rattle.counting.specs.declared.tally.Seen.{Seen}
 use Rattle.counting.specs.declared.tally.Tally.{Tally}
 
@@ -89,3 +89,8 @@ module _ {V S : Type 0} (order : V → V → Ordering) (sums : Sums V S) where
 -- the claims of several statistics, put in one after the other
 abbrev pub all-put : {V S : Type 0} → (Stat → Claim V S) → List Stat → Entries V S
 all-put f ss = folded (λ es s. put es s (f s)) [] ss
+
+-- the claims of a function that are there, in the order of the statistics
+abbrev pub present : {V S : Type 0} → (Stat → Claim V S) → List Stat → Entries V S
+present f [] = []
+present f (s ∷ ss) = cond (is-absent (f s)) (present f ss) (stated s (f s) ∷ present f ss)

@@ -5,11 +5,12 @@ ghost use Rattle.rules.specs.Column.{column};
 ghost use Rattle.rules.specs.Counting.{counted};
 ghost use Rattle.set.specs.Viewed.{entries};
 ghost use Rattle.counting.specs.Counted.{Counts};
+ghost use Rattle.counting.specs.Tallied.{fresh, with-row};
+ghost use Rattle.std.specs.Iters.{folded};
 use rules::element::Element;
 use rules::provider::StatsProvider;
 use rules::statement::Statement;
 use set::stats_set::StatsSet;
-use set::stats_set::methods::SetProvider;
 use tally::Tally;
 use tally::TallyClone;
 
@@ -20,11 +21,18 @@ mod tally;
 pub fn count<E: Element>(rows: &[Option<E>]) -> StatsSet<E, E::Sum>
     ensures { λ r. ⌜ Counts (column (E·Ordered .order) (Sum·Ordered .order) (E·Element .sums)) (now (rows .entry)) (entries (E·Element .sums .has-sums) r) ⌝ }
 {
+    tallied(rows).set(rows.len() as u64)
+}
+
+// What counting keeps after the last row.
+fn tallied<E: Element>(rows: &[Option<E>]) -> Tally<E, E::Sum>
+    ensures { λ r. ⌜ r ≡ folded (with-row (E·Ordered .order) (E·Element .sums)) (fresh (E·Element .sums)) (now (rows .entry)) ⌝ }
+{
     let mut tally = Tally::<E, E::Sum>::start();
     for row in rows {
         tally = tally.fed(*row);
     }
-    tally.set(rows.len() as u64)
+    tally
 }
 
 // Tells what counting the rows gives.
@@ -45,12 +53,10 @@ pub impl<'a, E: Element> StatsProvider<E> for LiveCount<'a, E> as LiveCountProvi
     ghost told = { λ p. counted (column (E·Ordered .order) (Sum·Ordered .order) (E·Element .sums)) (current (p .rows)) };
 
     fn len(&mut self) -> usize {
-        let mut set = count(self.rows);
-        set.len()
+        tallied(self.rows).told_len(self.rows.len() as u64)
     }
 
     fn tell(&mut self, place: usize) -> Option<Statement<E, E::Sum>> {
-        let mut set = count(self.rows);
-        set.tell(place)
+        tallied(self.rows).told(self.rows.len() as u64, place)
     }
 }

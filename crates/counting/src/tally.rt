@@ -8,7 +8,9 @@ ghost use Rattle.precision.specs.declared.precision.Precision.the-variants.{Exa
 ghost use Rattle.stat.specs.Stats.{all-stats};
 ghost use Rattle.rules.specs.Merging.{exactly};
 ghost use Rattle.set.specs.Viewed.{entries};
-ghost use Rattle.counting.specs.Tallied.{seen-with, level-after, rises-after, sum-with, fresh, with-row, no-two, least-of, most-of, tally-claim, all-put};
+ghost use Rattle.counting.specs.Tallied.{seen-with, level-after, rises-after, sum-with, fresh, with-row, no-two, least-of, most-of, tally-claim, all-put, present};
+ghost use lib.ListN.{length};
+ghost use Rattle.std.specs.shelf.Maps.{nth};
 use claims::of_count;
 use claims::of_element;
 use claims::of_flag;
@@ -19,6 +21,7 @@ use precision::precision::PrecisionClone;
 use rules::element::Element;
 use rules::statement::StatValue;
 use rules::statement::StatValueClone;
+use rules::statement::Statement;
 use set::stats_set::StatsSet;
 use stat::Stat;
 use std::cmp::Ordering;
@@ -90,6 +93,37 @@ impl<E: Element> Tally<E, E::Sum> {
             let _ = set.set(stat, self.claim(stat, rows));
         }
         set
+    }
+
+    // What is told at a place, for so many rows: the claims that there are, by rising number.
+    pub(crate) fn told(self, rows: u64, place: usize) -> Option<Statement<E, E::Sum>>
+        ensures { λ r. ⌜ r ≡ nth (present (tally-claim (E·Ordered .order) (E·Element .sums) self rows) all-stats) place ⌝ }
+    {
+        let mut left = place;
+        for stat in Stat::all() {
+            let claim = self.claim(stat, rows);
+            if !claim.is_absent() {
+                if left == 0 {
+                    return Some(Statement { stat, claim });
+                }
+                left -= 1;
+            }
+        }
+        None
+    }
+
+    // How many claims there are.
+    pub(crate) fn told_len(self, rows: u64) -> usize
+        ensures { λ r. ⌜ r ≡ length (present (tally-claim (E·Ordered .order) (E·Element .sums) self rows) all-stats) ⌝ }
+    {
+        let mut len = 0usize;
+        for stat in Stat::all() {
+            let claim = self.claim(stat, rows);
+            if !claim.is_absent() {
+                len += 1;
+            }
+        }
+        len
     }
 
     // The claim of a statistic, for so many rows.

@@ -4,7 +4,7 @@ use lib.ListN.{take}
 use Rattle.rules.specs.Column.{column}
 use Rattle.counting.specs.Tallied.{fresh}
 use Rattle.counting.proofs.Running.{run}
-use Rattle.counting.proofs.count.Given as given
+use Rattle.counting.proofs.tallied.Given as given
 
 abbrev pub Inv-loop-row : given.InvT-loop-row
 Inv-loop-row g l =
