@@ -1,3 +1,4 @@
+#![tactic(auto)]
 // Answers requests on sets and bounds, a line each, as the published Rust is asked beside it.
 use columns::mark::Mark;
 use columns::measure::Measure;

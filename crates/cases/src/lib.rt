@@ -1,3 +1,4 @@
+#![tactic(auto)]
 // Worked cases of the rules: one list, computed by the library, with one proof of what each comes to.
 ghost use Rattle.std.specs.Prelude.{◌≡◌, true};
 ghost use Rattle.columns.specs.Measures.{measured};

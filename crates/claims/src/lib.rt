@@ -1,3 +1,4 @@
+#![tactic(auto)]
 // The claims of the nine statistics, each a field of its own; absent where there is none.
 ghost use Rattle.std.specs.Prelude.{◌≡◌, cond};
 ghost use Rattle.precision.specs.Claims.{mapped};

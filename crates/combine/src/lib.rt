@@ -1,3 +1,4 @@
+#![tactic(auto)]
 // Combining statements about the same rows into a set.
 ghost use Rattle.std.specs.Prelude.{◌≡◌, true, List, if◌then◌else◌, Some as Just, Option as Maybe};
 ghost use Rattle.precision.specs.Claims.{is_absent};

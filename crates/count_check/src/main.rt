@@ -1,3 +1,4 @@
+#![tactic(auto)]
 // Counts every slice of at most four rows over null, -1, 0 and 1, and compares each claim with a second, plain computation.
 use claims::{element_in, sum_in};
 use columns::measure::Measure;

@@ -1,7 +1,9 @@
+#![tactic(auto)]
 // Counting rows: the true claim of each statistic, in one pass.
 ghost use Rattle.std.specs.Prelude.{◌≡◌, fold};
 ghost use Rattle.rules.specs.Column.{column};
 ghost use Rattle.rules.specs.Counting.{counted};
+ghost use Rattle.rules.proofs.Counted.{counted_proper};
 ghost use Rattle.set.specs.Viewed.{entries};
 ghost use Rattle.counting.specs.Counted.{Counts};
 ghost use Rattle.counting.specs.Tallied.{fresh, with_row};
@@ -48,7 +50,9 @@ impl<'a, E: Element> LiveCount<'a, E> {
 }
 
 impl<'a, E: Element> StatsProvider<E> for LiveCount<'a, E> {
-    ghost told = { λ p. counted (column E.Ordered.order Sum-as-Ordered.order E.Element.sums) p.rows.now };
+    ghost told = { λ p. counted (column E.Ordered.order E.Sum.Ordered.order E.Element.sums) p.rows.now };
+
+    ghost proper = { λ p. counted_proper (column E.Ordered.order E.Sum.Ordered.order E.Element.sums) p.rows.now };
 
     fn len(&mut self) -> usize {
         tallied(self.rows).told_len(self.rows.len() as u64)

@@ -1,3 +1,4 @@
+#![tactic(auto)]
 // What a merge gives for each kind of statistic, from the claims of both sides.
 ghost use Rattle.std.specs.Prelude.{◌≡◌};
 ghost use Rattle.order.specs.Order.{below, above};

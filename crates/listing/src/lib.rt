@@ -1,3 +1,4 @@
+#![tactic(auto)]
 // A list of at most nine: a table of nine entries, of which the first `len` are in use.
 ghost use Rattle.std.specs.Prelude.{◌≡◌, [], ◌∷◌, ◌++◌, length, if◌then◌else◌, filter, nat_lt};
 ghost use Rattle.std.specs.Borrow.{sem, follows};

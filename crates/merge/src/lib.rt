@@ -1,3 +1,4 @@
+#![tactic(auto)]
 // Merging the statistics of two disjoint parts into those of the whole.
 ghost use Rattle.std.specs.Prelude.{◌≡◌, ℕ, Bool, true, false};
 ghost use Rattle.precision.specs.Claims.{mapped};

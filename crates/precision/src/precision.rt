@@ -3,8 +3,6 @@ ghost use Rattle.std.specs.Prelude.{◌≡◌, Bool, true, false, ◌∷◌, Som
 ghost use Rattle.std.specs.Fmt.{option_append};
 ghost use Rattle.precision.specs.declared.precision.Precision.TheVariants.{Absent};
 ghost use Rattle.precision.specs.Claims.{inexactly, mapped, value_of, exact_of, inexact_of, is_exact, is_absent, zipped, transposed, Made, Equals, text_of};
-ghost use Rattle.std.specs.Cmp.Rules.{comparing};
-ghost use Rattle.std.proofs.Common.{rules};
 
 use std::fmt;
 
@@ -172,13 +170,11 @@ impl<T: fmt::Display> fmt::Display for Precision<T> {
     }
 }
 
-// Only an exact claim equals a value.
-impl<T: PartialEq> PartialEq<T> for Precision<T> {
-    ghost eq = { λ c v. Equals (λ x' y' r'. r' ≡ T.PartialEq.eq x' y') c v };
-
-    ghost laws = { Prim.search (comparing, rules) };
-
-    fn eq(&self, other: &T) -> bool {
+impl<T: PartialEq> Precision<T> {
+    // Only an exact claim equals a value.
+    pub fn eq_value(&self, other: &T) -> bool
+        ensures { Equals (λ x y r. r ≡ T.eq x y) self.now other.now result }
+    {
         match self {
             Precision::Exact(v) => v == other,
             _ => false,

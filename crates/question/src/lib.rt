@@ -1,3 +1,4 @@
+#![tactic(auto)]
 // Questions about rows: which match, and whether a zone can be passed over by what is claimed of it.
 ghost use Rattle.std.specs.Prelude.{◌≡◌, Bool, List, Option as Maybe};
 ghost use Rattle.rules.specs.declared.statement.Statement.{Statement as Said};

@@ -1,3 +1,4 @@
+#![tactic(auto)]
 // Reads the statements of two zones, a request a line, merges or combines them, and prints the set that comes of it.
 use columns::mark::Mark;
 use columns::measure::Measure;

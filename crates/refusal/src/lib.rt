@@ -1,3 +1,4 @@
+#![tactic(auto)]
 // Why a call declines. Each case has a number and, some of them, a value.
 ghost use Rattle.std.specs.Prelude.{◌≡◌, Some};
 ghost use Rattle.refusal.specs.Refusals.{refusal_number, refusal_value, refusal_text};

@@ -1,3 +1,4 @@
+#![tactic(auto)]
 // The nine statistics, by number and name.
 ghost use Rattle.std.specs.Prelude.{◌≡◌, Some};
 ghost use Rattle.stat.specs.Stats.{stat_number, same_stat, commutes, stat_name, all_stats};

@@ -1,3 +1,4 @@
+#![tactic(auto)]
 // A claim read as a bound: what values it allows, and the union and the intersection of two of them.
 ghost use Rattle.std.specs.Prelude.{◌≡◌, Option as Maybe};
 ghost use Rattle.std.specs.Option.{option_map};

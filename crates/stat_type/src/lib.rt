@@ -1,3 +1,4 @@
+#![tactic(auto)]
 // Each statistic as a type, which names the bound that its claims are.
 ghost use Rattle.std.specs.Prelude.{◌≡◌};
 ghost use Rattle.stat_type.specs.Bounded.{bounded, narrowed};

@@ -1,3 +1,4 @@
+#![tactic(auto)]
 // Names, claims and statements as text.
 ghost use Rattle.text.specs.Writing.{value_text, statement_text};
 ghost use Rattle.text.specs.Reading.{Named, ReadsAs, ReadsKind, ReadsFlag, ReadsU64, ReadsOf, ReadsStatement};

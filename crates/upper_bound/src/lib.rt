@@ -1,3 +1,4 @@
+#![tactic(auto)]
 // Upper bounds.
 ghost use Rattle.std.specs.Prelude.{◌≡◌};
 ghost use Rattle.order.specs.Order.{greater};
@@ -5,8 +6,6 @@ ghost use Rattle.precision.specs.Claims.{value_of, is_exact as exactness};
 ghost use Rattle.stat_bound.specs.Bounds.{UpperAllows, upper_union, upper_intersection, bound_equals, Equates, upper_compared, Compares};
 ghost use Rattle.stat_bound.specs.Laws.{upper_intersects, upper_unites};
 ghost use Rattle.std.proofs.Common.{rules};
-ghost use Rattle.std.specs.Cmp.Rules.{comparing};
-ghost use Rattle.std.specs.Cmp as Keys;
 
 use order::ordered::Ordered;
 use order::partial_ord::{partial_max, partial_min};
@@ -130,27 +129,21 @@ impl<T: Ordered> StatBound<T> for UpperBound<T> {
     }
 }
 
-// Only an exact bound equals a value.
-impl<T: Ordered> PartialEq<T> for UpperBound<T> {
-    ghost equals = { λ b v. Equates (UpperAllows T.Ordered.order) (bound_equals T.Ordered.order b.0 v) b.0 v };
-
-    ghost laws = { Keys.partial_equiv_from_equiv (Prim.search (comparing, rules)) };
-
-    fn eq(&self, other: &T) -> bool {
+impl<T: Ordered> UpperBound<T> {
+    // Only an exact bound equals a value.
+    pub fn eq_value(&self, other: &T) -> bool
+        ensures { Equates (UpperAllows T.order) (bound_equals T.order self.now.0 other.now) self.now.0 other.now result }
+    {
         match self.0 {
             Exact(lhs) => lhs.compare(*other).is_eq(),
             _ => false,
         }
     }
-}
 
-// An exact bound compares as its value does; an inexact one can only be known to be below a value.
-impl<T: Ordered> PartialOrd<T> for UpperBound<T> {
-    ghost compares = { λ b v. Compares T.Ordered.order (UpperAllows T.Ordered.order) (upper_compared T.Ordered.order b.0 v) b.0 v };
-
-    ghost laws = { Prim.search (comparing, rules) };
-
-    fn partial_cmp(&self, other: &T) -> Option<Ordering> {
+    // An exact bound compares as its value does; an inexact one can only be known to be below a value.
+    pub fn partial_cmp_value(&self, other: &T) -> Option<Ordering>
+        ensures { Compares T.order (UpperAllows T.order) (upper_compared T.order self.now.0 other.now) self.now.0 other.now result }
+    {
         match self.0 {
             Exact(lhs) => Some(lhs.compare(*other)),
             Inexact(lhs) => match lhs.compare(*other) {
