@@ -2,18 +2,15 @@
 ghost use Rattle.std.specs.Prelude.{◌≡◌, ◌^◌, ◌<◌, Some};
 ghost use Rattle.std.specs.Int.Signed.{mag};
 ghost use Rattle.std.specs.Fmt.{signed_decimal};
-ghost use Rattle.order.specs.Order.{integer_order};
 ghost use Rattle.columns.specs.Numbers.{ReadsI64, numbered};
-ghost use Rattle.std.proofs.Common.{rules, arith};
 
-use order::ordered::Ordered;
 use std::alloc::AllocError;
-use std::cmp::Ordering;
 use std::fmt;
 use std::num::ParseIntError;
 use std::str::FromStr;
 
 mod element;
+mod ordered;
 
 #[derive(Copy, PartialEq, Eq, Debug)]
 pub struct Measure {
@@ -44,23 +41,6 @@ impl Measure {
         ensures { result ≡ self.value }
     {
         self.value
-    }
-}
-
-// by number
-impl Ordered for Measure {
-    ghost order = { λ x y. integer_order x.value y.value };
-
-    ghost ordered = { first_of (Prim.search rules, Prim.grind (arith, Self.row.coded.inj)) };
-
-    fn compare(self, other: Measure) -> Ordering {
-        if self.value < other.value {
-            Ordering::Less
-        } else if other.value < self.value {
-            Ordering::Greater
-        } else {
-            Ordering::Equal
-        }
     }
 }
 

@@ -8,9 +8,9 @@ use Rattle.counting.proofs.tallied.Goals as goal
 
 pub loop-row-preserved : goal.loop-row-preserved
 loop-row-preserved g c =
-    run_more (column g.E.Ordered.order g.Sum.Ordered.order g.E.Element.sums) c.args.rows.now c.loop-row.row-index c.row-item.result c.loop-row.tally c.fed-tally.result c.loop-row-test.true c.row-item.is c.fed-tally.ensures c.loop-row.invariant
+    run_more (column g.E.Ordered.order g.E.Sum.Ordered.order g.E.Element.sums) c.args.rows.now c.loop-row.row-index c.row-item.result c.loop-row.tally c.fed-tally.result c.loop-row-test.true c.row-item.is c.fed-tally.ensures c.loop-row.invariant
 
 pub returns : goal.returns
 returns g c =
-    let k = column g.E.Ordered.order g.Sum.Ordered.order g.E.Element.sums in
+    let k = column g.E.Ordered.order g.E.Sum.Ordered.order g.E.Element.sums in
     c.loop-row.invariant.1 ∙ ap (run k (fresh g.E.Element.sums)) (take_all c.loop-row.row-index c.args.rows.now c.loop-row-test.false)

@@ -7,4 +7,4 @@ use Rattle.counting.proofs.tallied.Given as goal
 abbrev pub invariant-loop-row : goal.invariant-loop-row
 invariant-loop-row g l =
     (l.tally.nulls ≤ l.row-index)
-    × (l.tally ≡ run (column g.E.Ordered.order g.Sum.Ordered.order g.E.Element.sums) (fresh g.E.Element.sums) (take l.row-index l.rows))
+    × (l.tally ≡ run (column g.E.Ordered.order g.E.Sum.Ordered.order g.E.Element.sums) (fresh g.E.Element.sums) (take l.row-index l.rows))

@@ -22,23 +22,23 @@ joined-requires g c =
     }
 
 -- the statements are those that were told at first
-pub returns-in-default : goal.returns-in-default
-returns-in-default g c =
+pub returns-in_default : goal.returns-in_default
+returns-in_default g c =
     let told = g.P.StatsProvider.told in
-    absurd (nth_past (told c.loop-place.other) c.loop-place.place c.in-default.ensures.answer (omega (arith, ap length c.loop-place.invariant.0, ap length c.len-len.ensures.steady)))
+    absurd (nth_past (told c.loop-place.other) c.loop-place.place c.in_default.ensures.answer (omega (arith, ap length c.loop-place.invariant.0, ap length c.len-len.ensures.steady)))
 
-pub returns-in-default-joined : goal.returns-in-default-joined
-returns-in-default-joined g c =
+pub returns-in_default-joined : goal.returns-in_default-joined
+returns-in_default-joined g c =
     let sums = g.E.Element.sums.has_sums in
-    let k = column g.E.Ordered.order g.Sum.Ordered.order g.E.Element.sums in
-    let laws : ColumnLaws k = record { ordered = g.met.E.Ordered.ordered; sums_ordered = g.met.Sum.Ordered.ordered; narrow = g.met.E.Element.narrow; summed = g.met.E.Element.summed } in
+    let k = column g.E.Ordered.order g.E.Sum.Ordered.order g.E.Element.sums in
+    let laws : ColumnLaws k = record { ordered = g.met.E.Ordered.ordered; sums_ordered = g.met.E.Sum.Ordered.ordered; narrow = g.met.E.Element.narrow; summed = g.met.E.Element.summed } in
     let told = g.P.StatsProvider.told in
     let all = told c.len-len.new.self in
     let e = entries sums c.args.self.now in
     let es = entries sums c.loop-place.self in
     let owed = combine_owed k all e laws (g.met.P.StatsProvider.proper c.len-len.new.self) (set_proper sums c.args.self.now) in
     let s = c.in-Some.told in
-    let given = sym c.in-default-joined.is ∙ c.joined.ensures ∙ ap (λ m. cond (is_absent m) (Some s.claim) (intersected k s.stat m s.claim)) c.get.ensures in
+    let given = sym c.in_default-joined.is ∙ c.joined.ensures ∙ ap (λ m. cond (is_absent m) (Some s.claim) (intersected k s.stat m s.claim)) c.get.ensures in
     let done = stops k all e c.loop-place.place es s (set_proper sums c.loop-place.self).settable c.loop-place.invariant.1 (c.in-Some.ensures.answer ∙ ap (λ l. slice_get l c.loop-place.place) c.loop-place.invariant.0) given in
     record {
       combined = subst (λ l. Combines k l e es (contradicted (Some s.stat))) c.len-len.ensures.steady (owed es (contradicted (Some s.stat)) done.0 done.1);
@@ -48,7 +48,7 @@ returns-in-default-joined g c =
 pub loop-place-preserved : goal.loop-place-preserved
 loop-place-preserved g c =
     let sums = g.E.Element.sums.has_sums in
-    let k = column g.E.Ordered.order g.Sum.Ordered.order g.E.Element.sums in
+    let k = column g.E.Ordered.order g.E.Sum.Ordered.order g.E.Element.sums in
     let told = g.P.StatsProvider.told in
     let all = told c.len-len.new.self in
     let e = entries sums c.args.self.now in
@@ -65,8 +65,8 @@ loop-place-preserved g c =
 pub returns : goal.returns
 returns g c =
     let sums = g.E.Element.sums.has_sums in
-    let k = column g.E.Ordered.order g.Sum.Ordered.order g.E.Element.sums in
-    let laws : ColumnLaws k = record { ordered = g.met.E.Ordered.ordered; sums_ordered = g.met.Sum.Ordered.ordered; narrow = g.met.E.Element.narrow; summed = g.met.E.Element.summed } in
+    let k = column g.E.Ordered.order g.E.Sum.Ordered.order g.E.Element.sums in
+    let laws : ColumnLaws k = record { ordered = g.met.E.Ordered.ordered; sums_ordered = g.met.E.Sum.Ordered.ordered; narrow = g.met.E.Element.narrow; summed = g.met.E.Element.summed } in
     let told = g.P.StatsProvider.told in
     let all = told c.len-len.new.self in
     let e = entries sums c.args.self.now in

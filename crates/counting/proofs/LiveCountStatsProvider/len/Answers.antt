@@ -6,6 +6,6 @@ use Rattle.counting.proofs.LiveCountStatsProvider.len.Goals as goal
 
 pub returns : goal.returns
 returns g c =
-    let k = column g.E.Ordered.order g.Sum.Ordered.order g.E.Element.sums in
-    let laws : ColumnLaws k = record { ordered = g.met.E.Ordered.ordered; sums_ordered = g.met.Sum.Ordered.ordered; narrow = g.met.E.Element.narrow; summed = g.met.E.Element.summed } in
-    record { answer = c.told-len.ensures ∙ ap length (tells_counted k laws c.args.self.now.rows.now c.tallied.result c.tallied.ensures); steady = refl }
+    let k = column g.E.Ordered.order g.E.Sum.Ordered.order g.E.Element.sums in
+    let laws : ColumnLaws k = record { ordered = g.met.E.Ordered.ordered; sums_ordered = g.met.E.Sum.Ordered.ordered; narrow = g.met.E.Element.narrow; summed = g.met.E.Element.summed } in
+    record { answer = c.told_len.ensures ∙ ap length (tells_counted k laws c.args.self.now.rows.now c.tallied.result c.tallied.ensures); steady = refl }

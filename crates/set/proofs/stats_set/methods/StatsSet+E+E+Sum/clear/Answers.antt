@@ -13,4 +13,4 @@ returns g c =
     let sums = g.E.Element.sums.has_sums in
     let es = entries sums c.args.self.now in
     let e = c.keep.ensures ∙ retained_others es c.args.stat (λ s. nth_nine c.all_but.result (stat_number s)) c.all_but.ensures in
-    record { after = e; truth = cleared_true (column g.E.Ordered.order g.Sum.Ordered.order g.E.Element.sums) es _ c.args.stat e }
+    record { after = e; truth = cleared_true (column g.E.Ordered.order g.E.Sum.Ordered.order g.E.Element.sums) es _ c.args.stat e }

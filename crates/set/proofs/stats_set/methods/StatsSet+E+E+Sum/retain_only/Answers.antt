@@ -13,4 +13,4 @@ returns g c =
     let sums = g.E.Element.sums.has_sums in
     let es = entries sums c.args.self.now in
     let e = c.keep.ensures ∙ retained_same es (λ s. nth_nine c.only.result (stat_number s)) (has_stat c.args.stats.now) c.only.ensures in
-    record { after = e; truth = retained_true (column g.E.Ordered.order g.Sum.Ordered.order g.E.Element.sums) es _ (has_stat c.args.stats.now) e }
+    record { after = e; truth = retained_true (column g.E.Ordered.order g.E.Sum.Ordered.order g.E.Element.sums) es _ (has_stat c.args.stats.now) e }

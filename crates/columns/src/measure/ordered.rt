@@ -1,0 +1,24 @@
+// The order of measures.
+ghost use Rattle.order.specs.Order.{integer_order};
+ghost use Rattle.columns.specs.MeasuresLemmas.{measures_ordered};
+
+use crate::measure::Measure;
+use order::ordered::Ordered;
+use std::cmp::Ordering;
+
+// by number
+impl Ordered for Measure {
+    ghost order = { λ x y. integer_order x.value y.value };
+
+    ghost ordered = { measures_ordered };
+
+    fn compare(self, other: Measure) -> Ordering {
+        if self.value < other.value {
+            Ordering::Less
+        } else if other.value < self.value {
+            Ordering::Greater
+        } else {
+            Ordering::Equal
+        }
+    }
+}
