@@ -144,8 +144,9 @@ impl Listing<Stat> {
         let len = self.len();
         for i in 0..len {
             let stat = self.order.at(i);
-            if keep.at(stat.number() as usize) {
-                chosen.push(stat);
+            match keep.at(stat.number() as usize) {
+                true => chosen.push(stat),
+                false => (),
             }
         }
         *self = chosen;
