@@ -2,24 +2,21 @@
 use Rattle.std.proofs.Common.{◌≡◌, ℕ, ◌+◌, ◌-◌, ◌<◌, ◌≤◌, Bool, true, false, cond, not, ◌&&◌, eqb, ltb, ◌⊎◌, List, [], ◌∷◌, ◌++◌, length, get_or, take, drop, set, Some, None, Option, sym, refl, ap, ◌∙◌, subst, inl, inr, arith}
 use Rattle.std.proofs.lemmas.List.{length-set, length_push, get_or-set_same, get_or-set_other, drop-take}
 use Rattle.std.proofs.ByRecursion.{All-push, All-weaker}
-use Rattle.std.proofs.lemmas.Bool.{cases_eq, cases_Bool, cond-true, cond-false, lt-ltb, ltb-true, eqb-true, eqb-false, ne_eqb, and_from, and_left, and_right, and_parts, not_from_true, not_from_false}
-use Rattle.stat.specs.declared.Stat.{Stat}
+use Rattle.std.proofs.lemmas.Bool.{cases_eq, cases_Bool, cond-true, cond-false, ltb-true, eqb-true, eqb-false, and_from, and_left, and_right, and_parts, not_from_true, not_from_false}
 use Rattle.rules.specs.Column.{Column}
 use Rattle.rules.specs.Rows.{Row, Every}
 use Rattle.rules.specs.Claims.{some?}
-use Rattle.rules.specs.Sets.{Entries, got}
+use Rattle.rules.specs.Sets.{Entries}
 use Rattle.rules.specs.Merging.{merged}
-use Rattle.rules.specs.Combining.{against}
 use Rattle.rules.specs.Counting.{counted}
 use Rattle.rules.proofs.Lists.{every_both}
-use Rattle.book.specs.Book.{Zone, Book, append, close, merge, usable_cells, usable_records, zone_of, without_zone, set_changed, zones_changed, row_added, open_span, open_zone, record_added, joined_zone, zones_joined, joined_by, changed_by, after}
-use Rattle.book.specs.Chains.{Filed, no_record, record_at, next_of, linked_to, with_set, InUse, last_of}
-use Rattle.book.specs.Law.{SetsStand}
-use Rattle.book.specs.Sound.{Headed, Sound, Fits}
-use Rattle.book.specs.Replies.{Reply, cell, zone, steps, declines, on_zone, unless_against, reply}
+use Rattle.book.specs.Book.{Zone, Book, append, close, merge, usable_cells, usable_records, zone_of, without_zone, set_changed, row_added, open_span, open_zone, record_added, joined_zone, zones_joined, joined_by, changed_by, after}
+use Rattle.book.specs.Chains.{Filed, record_at, linked_to, with_set, InUse, last_of}
+use Rattle.book.specs.Sound.{Headed}
+use Rattle.book.specs.Replies.{Reply, cell, zone, steps, declines, on_zone, reply}
 use Rattle.book.specs.State.{State, flag_at, zone?, set_of, chain_at, open_rows, with_table, set_put, next_put, row_put, set_by, filed, record_put, link_put, state_after, if_zone, state_reply}
-use Rattle.book.specs.Keeps.{is_live, Carries, Keeps}
-use Rattle.book.proofs.Zones.{found_number, found_every, each_found, every_with, every_without, with_zone_none}
+use Rattle.book.specs.Keeps.{Carries, Keeps}
+use Rattle.book.proofs.Zones.{found_number, found_every, every_with, every_without}
 use Rattle.book.proofs.Steps.{merge_taken, merge_same, merge_no_first, merge_no_second, set_refused}
 use Rattle.book.proofs.Soundness.{numbers_in_use, sound_append, sound_set, sound_merge, sound_close}
 use Rattle.book.proofs.Tables.{record_at_written, record_at_other, carries_append, carries_set, carries_close, carries_merge, last_in_use}

@@ -1,8 +1,8 @@
 -- A search of tables that keep a book finds what a search of the book finds.
-use Rattle.std.proofs.Common.{◌≡◌, ℕ, ◌+◌, ◌-◌, ◌<◌, ◌≤◌, Bool, true, false, cond, not, ltb, List, [], ◌∷◌, ◌++◌, map, length, Some, None, sum_by, filter, Option, sym, refl, ap, ◌∙◌, arith}
+use Rattle.std.proofs.Common.{◌≡◌, ℕ, ◌+◌, ◌-◌, ◌<◌, Bool, true, false, cond, not, ltb, List, [], ◌∷◌, ◌++◌, length, Some, None, sum_by, filter, Option, sym, refl, ap, ◌∙◌, arith}
 use lib.ListN.{get_or-map}
 use Rattle.std.specs.List.{flat_map}
-use Rattle.std.proofs.lemmas.List.{append_assoc, append-nil}
+use Rattle.std.proofs.lemmas.List.{append-nil}
 use Rattle.std.proofs.lemmas.List.Elements.{filter-append}
 use Rattle.std.proofs.ByRecursion.{All-weaker}
 use Rattle.std.proofs.lemmas.List.Sums.{sum_by-cons}
@@ -11,12 +11,12 @@ use Rattle.rules.specs.Column.{Column}
 use Rattle.rules.specs.Rows.{Row, Every}
 use Rattle.rules.specs.Claims.{some?}
 use Rattle.rules.specs.Sets.{Entries}
-use Rattle.book.specs.Book.{Span, Zone, Book, seek, from_to, zone_of, span_at, cells_in, cells_of, cells_along, row_at}
-use Rattle.book.specs.Chains.{Filed, no_record, record_at, InUse}
-use Rattle.book.specs.Law.{span_in, spans_in, zone_cells, matching, all_matching, one_or_none, zones_to, to_search, skipped}
+use Rattle.book.specs.Book.{Zone, Book, seek, from_to, zone_of, cells_in, cells_of, cells_along, row_at}
+use Rattle.book.specs.Chains.{no_record, InUse}
+use Rattle.book.specs.Law.{span_in, spans_in, zone_cells, matching, all_matching, one_or_none, to_search, skipped}
 use Rattle.book.specs.Replies.{found, declines, searched_cells, reply}
-use Rattle.book.specs.State.{State, zone?, set_of, chain_at, cells_from, hits_from, found_at, passed_at, all_found, all_passed, state_reply}
-use Rattle.book.specs.Keeps.{is_live, Keeps}
+use Rattle.book.specs.State.{State, zone?, set_of, cells_from, hits_from, found_at, passed_at, all_found, all_passed, state_reply}
+use Rattle.book.specs.Keeps.{Keeps}
 use Rattle.book.proofs.Occurs.{joined_append, joined_same, every_from_to}
 use Rattle.book.proofs.Zones.{found_every}
 use Rattle.book.proofs.InOrder.{zones_to_all}

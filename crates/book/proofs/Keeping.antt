@@ -1,29 +1,24 @@
 -- Tables that keep a book keep it through each call, and answer as it does.
-use Rattle.std.proofs.Common.{◌≡◌, ℕ, ◌+◌, ◌-◌, ◌<◌, ◌≤◌, Bool, true, false, cond, not, ◌&&◌, eqb, ltb, ◌⊎◌, List, [], ◌∷◌, ◌++◌, length, get_or, take, drop, set, Some, None, Option, sym, refl, ap, ◌∙◌, subst, inl, inr, arith}
-use Rattle.std.proofs.lemmas.List.{length-set, get_or-set_same, get_or-set_other, drop-take}
-use Rattle.std.proofs.ByRecursion.{All-push, All-weaker}
-use Rattle.std.proofs.lemmas.Bool.{cases_eq, cases_lt, cases_Bool, cond-true, cond-false, cond_both, lt-ltb, le-ltb, ltb-true, ltb-false, eq-eqb, ne_eqb, eqb-true, eqb-false, and_from, and_left, and_right, and_parts, not_from_true, not_from_false, true≢false, false≢true}
-use Rattle.rules.specs.Column.{Column}
+use Rattle.std.proofs.Common.{◌≡◌, ℕ, ◌-◌, ◌<◌, ◌≤◌, Bool, true, false, cond, not, ◌&&◌, eqb, ltb, ◌⊎◌, List, length, Some, None, sym, refl, ap, ◌∙◌, subst, inl, inr, arith}
+use Rattle.std.proofs.lemmas.List.{length-set}
+use Rattle.std.proofs.ByRecursion.{All-weaker}
+use Rattle.std.proofs.lemmas.Bool.{cases_eq, cases_lt, lt-ltb, le-ltb, eq-eqb, ne_eqb, and_left, not_from_true, not_from_false}
 use Rattle.rules.specs.Rows.{Row, Every}
 use Rattle.rules.specs.Claims.{some?}
-use Rattle.rules.specs.Sets.{Entries, got, without, retained}
-use Rattle.rules.specs.Merging.{merged}
-use Rattle.rules.specs.Combining.{combined, against}
-use Rattle.rules.specs.Counting.{counted}
-use Rattle.rules.proofs.Lists.{every_in, in_every, every_both}
-use Rattle.book.specs.Book.{Zone, Book, Call, append, close, merge, combine, clear, retain_only, get, seek, fresh, usable_cells, usable_records, zone_of, with_zone, without_zone, set_changed, zones_changed, row_added, open_zone, record_added, joined_zone, zones_joined, appended, shut, joined_if, joined_by, changed_by, after}
-use Rattle.book.specs.Chains.{Filed, no_record, record_at, next_of, linked_to, with_set, InUse, walked, last_of}
-use Rattle.book.specs.Law.{SetsStand, Linked}
-use Rattle.book.specs.Sound.{Sound, Fits}
-use Rattle.book.specs.State.{State, flag_at, zone?, set_of, chain_at, open_rows, with_table, set_put, next_put, row_put, set_by, filed, record_put, link_put, state_after, if_zone, state_reply}
+use Rattle.rules.specs.Sets.{Entries}
+use Rattle.rules.proofs.Lists.{in_every, every_both}
+use Rattle.book.specs.Book.{Zone, Book, zone_of}
+use Rattle.book.specs.Chains.{Filed, record_at, next_of, with_set, InUse, walked}
+use Rattle.book.specs.Law.{Linked}
+use Rattle.book.specs.Sound.{Sound}
+use Rattle.book.specs.State.{State, flag_at, zone?, set_of, chain_at, set_put}
 use Rattle.book.specs.Keeps.{is_live, Carries, Keeps}
-use Rattle.book.proofs.Zones.{live_found, live_not_found, found_every, found_number, zone_of_below, each_found, every_with, every_without, with_zone_none, some_same, some_none}
-use Rattle.book.proofs.Steps.{merge_taken}
-use Rattle.book.proofs.Soundness.{numbers_in_use, chains_in_use, sound_append, sound_set, sound_merge, sound_close, fits_after}
+use Rattle.book.proofs.Zones.{live_found, live_not_found, found_every, found_number, zone_of_below}
+use Rattle.book.proofs.Soundness.{numbers_in_use, chains_in_use}
 use Rattle.book.proofs.Lengths.{length_chain}
-use Rattle.book.proofs.Tables.{record_at_written, record_at_other, spans_in_kept, kept_filled, kept_used, carries_append, carries_set, carries_close, carries_merge, last_in_use}
+use Rattle.book.proofs.Tables.{record_at_written, record_at_other, spans_in_kept, kept_filled, kept_used}
 use Rattle.book.proofs.Linking.{chain_kept}
-use Rattle.book.proofs.Walking.{walked_chain, split_last}
+use Rattle.book.proofs.Walking.{walked_chain}
 
 -- two choices by one test
 pub cond_pair : {A B : Type 0} (t : Bool) (x s : A) (y b : B) (R : A → B → Type 0) → (t ≡ true → R x y) → (t ≡ false → R s b) → R (cond t x s) (cond t y b)

@@ -1,5 +1,5 @@
 -- The sets of the zones stay such as `set` can make, along a run.
-use Rattle.std.proofs.Common.{◌≡◌, ℕ, Bool, true, false, List, [], ◌∷◌, drop}
+use Rattle.std.proofs.Common.{◌≡◌, ℕ, Bool, true, List, [], ◌∷◌, drop}
 use Rattle.std.proofs.ByRecursion.{All-push}
 use Rattle.stat.specs.declared.Stat.{Stat}
 use Rattle.rules.specs.Column.{Column}

@@ -1,22 +1,22 @@
 -- The law of every run on a new index, from its parts.
-use Rattle.std.proofs.Common.{◌≡◌, ℕ, ◌+◌, ◌-◌, ◌<◌, ◌≤◌, Bool, true, false, cond, not, ◌&&◌, eqb, ltb, ◌⊎◌, List, [], ◌∷◌, ◌++◌, length, take, drop, set, replicate, Some, None, sym, refl, ap, ◌∙◌, subst, inl, inr, arith}
+use Rattle.std.proofs.Common.{◌≡◌, ℕ, ◌+◌, ◌-◌, ◌<◌, ◌≤◌, Bool, true, false, cond, not, ◌&&◌, eqb, ltb, List, [], ◌∷◌, ◌++◌, length, take, drop, set, None, sym, refl, ap, ◌∙◌, subst, arith}
 use lib.ListN.{length-replicate}
 use Rattle.std.proofs.lemmas.List.{length-set, length-append, length-take-le, length-drop, drop-set-lt, drop-drop, take_at, drop_at, take-append-drop}
-use Rattle.std.proofs.lemmas.Bool.{cases_Bool, cond-true, cond-false, cond_both, lt-ltb, ltb-true, ltb-false, and_parts}
+use Rattle.std.proofs.lemmas.Bool.{cond-true, cond-false, cond_both, lt-ltb, ltb-false, and_parts}
 use Rattle.rules.specs.Column.{Column, ColumnLaws}
 use Rattle.rules.specs.Rows.{Row, Every}
 use Rattle.rules.specs.Sets.{Entries, got, without, retained}
 use Rattle.rules.specs.Merging.{merged}
 use Rattle.rules.specs.Combining.{combined, against}
-use Rattle.book.specs.Book.{Zone, Book, Call, append, close, merge, combine, clear, retain_only, get, seek, usable_cells, usable_records, fresh, zone_of, after, after_all}
-use Rattle.book.specs.Chains.{Filed, record_at, next_of, linked_to, with_set, InUse, last_of}
-use Rattle.book.specs.Law.{Provided, SaidTrue, AllSaidTrue, SetsProper, SetsTrue, ChainsStand, written_into, Found, skipped}
-use Rattle.book.specs.Sound.{Sound, Fits}
+use Rattle.book.specs.Book.{Book, Call, append, close, merge, combine, clear, retain_only, get, seek, usable_cells, usable_records, fresh, after, after_all}
+use Rattle.book.specs.Chains.{Filed, record_at, linked_to, with_set, InUse, last_of}
+use Rattle.book.specs.Law.{Provided, AllSaidTrue, SetsProper, SetsTrue, written_into, Found, skipped}
+use Rattle.book.specs.Sound.{Sound}
 use Rattle.book.specs.Replies.{Reply, clear_done, retain_done, claim, found, declines, unless_against, searched_cells, reply, replies, room_of, wrote, all_wrote}
-use Rattle.book.specs.State.{State, opened, zone?, set_of, chain_at, with_table, set_put, next_put, row_put, set_by, filed, record_put, link_put, state_after, state_reply, state_wrote, state_all, state_replies, state_all_wrote}
-use Rattle.book.specs.Keeps.{Carries, Keeps}
+use Rattle.book.specs.State.{State, opened, zone?, set_of, chain_at, with_table, set_put, row_put, set_by, filed, record_put, link_put, state_after, state_reply, state_wrote, state_all, state_replies, state_all_wrote}
+use Rattle.book.specs.Keeps.{Keeps}
 use Rattle.book.specs.Runs.{Performs, rooms, CallFound, AllFound, RunStands, Runs}
-use Rattle.book.proofs.Soundness.{sound_fresh, sound_after, sound_run, fits_run}
+use Rattle.book.proofs.Soundness.{sound_fresh, sound_after}
 use Rattle.book.proofs.Properly.{proper_after}
 use Rattle.book.proofs.Truthful.{true_after, true_after_all}
 use Rattle.book.proofs.Searching.{matching_fit, found_by_skipping}

@@ -1,5 +1,5 @@
 -- The book of an index: what it should hold, fed only table lengths and call arguments.
-use Rattle.std.specs.Prelude.{ℕ, zero, suc, ◌+◌, ◌-◌, min, Bool, true, false, cond, ◌&&◌, List, [], ◌∷◌, ◌++◌, map, length, drop, Some, None, Option, ◌==◌, nat_lt, slice_index_or}
+use Rattle.std.specs.Prelude.{ℕ, zero, suc, ◌+◌, ◌-◌, min, Bool, cond, ◌&&◌, List, [], ◌∷◌, ◌++◌, map, length, drop, Some, None, Option, ◌==◌, nat_lt, slice_index_or}
 use Rattle.std.specs.List.{flat_map}
 use Rattle.stat.specs.declared.Stat.{Stat}
 use Rattle.rules.specs.declared.statement.Statement.{Statement}

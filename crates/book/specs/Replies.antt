@@ -1,5 +1,5 @@
 -- What the book answers to each call: every answer with its number and its values.
-use Rattle.std.specs.Prelude.{ℕ, ◌+◌, Bool, true, false, cond, List, [], ◌∷◌, ◌++◌, length, take, drop, Some, None, Ok, Err, Option, Result, ◌==◌, nat_lt}
+use Rattle.std.specs.Prelude.{ℕ, ◌+◌, Bool, cond, List, [], ◌∷◌, ◌++◌, length, take, drop, Some, None, Ok, Err, Option, Result, ◌==◌, nat_lt}
 use Rattle.stat.specs.declared.Stat.{Stat}
 use Rattle.stat.specs.Stats.{stat_number}
 use Rattle.refusal.specs.declared.Refusal.{Refusal}

@@ -1,12 +1,12 @@
 -- What a call owes, and the law of every run on a new index, for every column of elements V with sums S.
-use Rattle.std.specs.Prelude.{◌≡◌, ℕ, ◌+◌, ◌<◌, ◌≤◌, Bool, true, false, cond, List, [], ◌∷◌, ◌++◌, length, take, drop}
-use Rattle.rules.specs.Column.{Column, ColumnLaws}
-use Rattle.rules.specs.Rows.{Row, Every}
+use Rattle.std.specs.Prelude.{◌≡◌, ℕ, ◌+◌, ◌<◌, List, [], ◌∷◌, ◌++◌, length, take, drop}
+use Rattle.rules.specs.Column.{Column}
+use Rattle.rules.specs.Rows.{Row}
 use Rattle.book.specs.Book.{Book, Call, append, close, merge, combine, clear, retain_only, get, seek, fresh, after, after_all}
 use Rattle.book.specs.Chains.{Filed}
-use Rattle.book.specs.Law.{Provided, AllSaidTrue, SetsStand, SetsTrue, ChainsStand, Found}
+use Rattle.book.specs.Law.{AllSaidTrue, SetsStand, SetsTrue, ChainsStand, Found}
 use Rattle.book.specs.Replies.{Reply, found, reply, replies, room_of, all_wrote}
-use Rattle.book.specs.State.{State, opened, state_after, state_reply, state_all, state_replies, state_all_wrote}
+use Rattle.book.specs.State.{State, opened, state_after, state_reply, state_all}
 use Rattle.book.specs.Keeps.{Keeps}
 
 -- a call takes the state s to t and answers r:

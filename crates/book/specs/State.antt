@@ -1,5 +1,5 @@
 -- The two tables of an index with the numbers beside them, and what each call does to them and answers.
-use Rattle.std.specs.Prelude.{◌≡◌, ℕ, ◌+◌, ◌-◌, Bool, true, false, cond, not, ◌&&◌, List, [], ◌∷◌, ◌++◌, length, take, drop, set, replicate, Some, None, sum_by, filter, Option, ◌==◌, nat_lt, slice_index_or, slice_set}
+use Rattle.std.specs.Prelude.{ℕ, ◌+◌, ◌-◌, Bool, true, false, cond, not, ◌&&◌, List, [], ◌∷◌, ◌++◌, length, take, drop, replicate, Some, None, sum_by, filter, ◌==◌, nat_lt, slice_index_or, slice_set}
 use Rattle.std.specs.List.{flat_map}
 use Rattle.rules.specs.Column.{Column}
 use Rattle.rules.specs.Rows.{Row}

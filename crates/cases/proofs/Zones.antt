@@ -1,5 +1,5 @@
 -- Zones of written rows: what counting and merging them comes to, by computation.
-use Rattle.std.proofs.Common.{◌≡◌, ℕ, true, List, [], ◌∷◌, pos, Some, None, Option, refl, ap, ◌∙◌}
+use Rattle.std.proofs.Common.{◌≡◌, ℕ, true, List, [], ◌∷◌, pos, ◌∙◌}
 use Rattle.rules.specs.Rows.{Row}
 use Rattle.rules.specs.Sets.{Entries}
 use Rattle.rules.specs.Counting.{counted}

@@ -1,5 +1,5 @@
 -- A set's claims by statistic, and its entries in the order of first setting.
-use Rattle.std.specs.Prelude.{ℕ, Bool, true, false, cond, not, ◌&&◌, ◌||◌, List, [], ◌∷◌, map, filter, slice_index_or}
+use Rattle.std.specs.Prelude.{Bool, true, false, cond, not, ◌&&◌, ◌||◌, List, [], ◌∷◌, map, slice_index_or}
 use Rattle.precision.specs.declared.precision.Precision.{Precision}
 use Rattle.precision.specs.declared.precision.Precision.TheVariants.{Absent}
 use Rattle.precision.specs.Claims.{mapped}
@@ -10,7 +10,6 @@ use Rattle.rules.specs.declared.statement.StatValue.TheVariants.{Flag, Element, 
 use Rattle.rules.specs.Claims.{Claim, flag_claim, element_claim, sum_claim, count_claim}
 use Rattle.rules.specs.Sets.{Entries, stated}
 use Rattle.listing.specs.declared.Nine.{Nine}
-use Rattle.listing.specs.Nines.{nth_nine}
 use Rattle.claims.specs.declared.Claims.{Claims}
 
 -- the nine claims, by rising number

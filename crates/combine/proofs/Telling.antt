@@ -1,7 +1,7 @@
 -- Statements told place by place, and combined one after another.
-use Rattle.std.proofs.Common.{◌≡◌, ℕ, zero, suc, ◌+◌, ◌<◌, ◌≤◌, Bool, true, false, cond, not, List, [], ◌∷◌, length, drop, Some, None, Option, sym, refl, ap, ◌∙◌, subst, add-one, arith}
+use Rattle.std.proofs.Common.{◌≡◌, ℕ, zero, suc, ◌+◌, ◌<◌, ◌≤◌, Bool, true, false, cond, not, List, [], ◌∷◌, length, drop, Some, None, Option, sym, refl, ap, ◌∙◌, subst, arith}
 use Rattle.std.proofs.lemmas.List.{drop_all}
-use Rattle.std.proofs.lemmas.Bool.{true≢false, false≢true}
+use Rattle.std.proofs.lemmas.Bool.{false≢true}
 use Rattle.std.specs.List.{slice_get}
 use Rattle.precision.specs.declared.precision.Precision.TheVariants.{Exact, Inexact, Absent}
 use Rattle.precision.specs.Claims.{is_absent}
@@ -9,11 +9,10 @@ use Rattle.stat.specs.declared.Stat.{Stat}
 use Rattle.stat.specs.Stats.{same_stat}
 use Rattle.rules.specs.declared.statement.Statement.{Statement}
 use Rattle.rules.specs.Column.{Column, ColumnLaws}
-use Rattle.rules.specs.Rows.{Row}
 use Rattle.rules.specs.Claims.{Claim, settable, may_set}
 use Rattle.rules.specs.Truth.{AllHold}
 use Rattle.rules.specs.Sets.{Entries, got, has, put, AllSettable, Proper}
-use Rattle.rules.specs.Combining.{intersected, joined, combined, taken, against}
+use Rattle.rules.specs.Combining.{intersected, joined, combined, against}
 use Rattle.rules.proofs.Combining.{combined_holds}
 use Rattle.rules.proofs.Claims.{InSome}
 use Rattle.rules.proofs.Merges.{may_taken}

@@ -1,7 +1,6 @@
 -- Whether no two rows differ, told from the least and the greatest element and the number of nulls.
-use Rattle.std.proofs.Common.{◌≡◌, ℕ, ◌+◌, ◌≤◌, Bool, true, false, ◌&&◌, eqb, ◌⊎◌, List, [], ◌∷◌, Some, None, Option, Ordering, sym, refl, ap, ◌∙◌, subst, inl, inr, arith}
-use Rattle.std.proofs.lemmas.Bool.{true≢false, false≢true, and_parts, and_from, eqb-true, eq-eqb}
-use Rattle.precision.specs.declared.precision.Precision.{Precision}
+use Rattle.std.proofs.Common.{◌≡◌, ℕ, ◌≤◌, Bool, true, false, ◌&&◌, eqb, ◌⊎◌, List, [], ◌∷◌, Some, None, Option, Ordering, sym, refl, ap, ◌∙◌, subst, inl, inr, arith}
+use Rattle.std.proofs.lemmas.Bool.{and_parts, and_from, eqb-true, eq-eqb}
 use Rattle.precision.specs.declared.precision.Precision.TheVariants.{Exact, Absent}
 use Rattle.order.specs.Order.{OrderLaws, below, above, same, lesser, greater}
 use Rattle.order.proofs.Orders.{Strict, below_strict, above_strict, above_round, below_level, same_is}

@@ -10,7 +10,7 @@ use Rattle.stat.specs.declared.Stat.{Stat}
 use Rattle.stat.specs.declared.Stat.TheVariants.{IsConstant, IsSorted, IsStrictSorted, Max, Min, Sum as Total, NullCount, UncompressedSizeInBytes, NaNCount}
 use Rattle.stat.specs.Stats.{all_stats}
 use Rattle.rules.specs.declared.statement.StatValue.{StatValue}
-use Rattle.rules.specs.declared.statement.StatValue.TheVariants.{Flag, Element, Sum, Count}
+use Rattle.rules.specs.declared.statement.StatValue.TheVariants.{Element, Sum, Count}
 use Rattle.rules.specs.Column.{Column, ColumnLaws, Sums}
 use Rattle.rules.specs.Rows.{Row, elements}
 use Rattle.rules.specs.Claims.{Claim, some?, takes, may_set}

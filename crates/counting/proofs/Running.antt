@@ -1,5 +1,5 @@
 -- What the tally holds after all rows: of each statistic the counted claim.
-use Rattle.std.proofs.Common.{◌≡◌, ℕ, ◌+◌, ◌*◌, ◌^◌, Bool, true, false, cond, ◌&&◌, ltb, List, [], ◌∷◌, length, Some, None, fold, Option, Ordering, sym, refl, ap, ◌∙◌, subst, arith}
+use Rattle.std.proofs.Common.{◌≡◌, ◌+◌, ◌*◌, ◌^◌, Bool, true, false, cond, ◌&&◌, ltb, List, [], ◌∷◌, length, Some, None, fold, Option, sym, refl, ap, ◌∙◌, arith}
 use Rattle.precision.specs.declared.precision.Precision.TheVariants.{Exact, Absent}
 use Rattle.precision.specs.Claims.{mapped}
 use Rattle.order.specs.Order.{below, above, lesser, greater}

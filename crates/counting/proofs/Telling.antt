@@ -1,5 +1,5 @@
 -- Telling the claims of a tally, statistic after statistic.
-use Rattle.std.proofs.Common.{◌≡◌, ℕ, zero, suc, ◌+◌, ◌<◌, ◌≤◌, Bool, true, false, cond, List, [], ◌∷◌, length, get_or, drop, Some, Option, sym, refl, ap, ◌∙◌, subst, ap₂, arith}
+use Rattle.std.proofs.Common.{◌≡◌, ℕ, zero, suc, ◌+◌, ◌<◌, ◌≤◌, true, false, cond, List, [], ◌∷◌, length, get_or, drop, Some, Option, sym, refl, ap, ◌∙◌, subst, ap₂, arith}
 use Rattle.std.specs.List.{slice_get}
 use Rattle.std.proofs.lemmas.List.{drop_all, drop_more}
 use Rattle.std.proofs.lemmas.Bool.{cond-true, cond-false}
@@ -10,7 +10,7 @@ use Rattle.rules.specs.Column.{Column, ColumnLaws}
 use Rattle.rules.specs.Rows.{Row}
 use Rattle.rules.specs.declared.statement.Statement.{Statement}
 use Rattle.rules.specs.Claims.{Claim}
-use Rattle.rules.specs.Sets.{Entries, stated}
+use Rattle.rules.specs.Sets.{stated}
 use Rattle.rules.specs.Counting.{counted_claim, counted}
 use Rattle.rules.proofs.Counted.{told, counted_told}
 use Rattle.counting.specs.declared.tally.Tally.{Tally}

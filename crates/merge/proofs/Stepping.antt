@@ -1,5 +1,5 @@
 -- A merge as nine steps, each of which sets one statistic.
-use Rattle.std.proofs.Common.{◌≡◌, Bool, true, false, cond, ◌++◌, sym, refl, ap, ◌∙◌, subst}
+use Rattle.std.proofs.Common.{◌≡◌, Bool, true, cond, ◌++◌, sym, ap, ◌∙◌, subst}
 use Rattle.std.proofs.lemmas.Bool.{cond-true}
 use Rattle.stat.specs.declared.Stat.{Stat}
 use Rattle.stat.specs.declared.Stat.TheVariants.{IsConstant, IsSorted, IsStrictSorted, Max, Min, Sum as Total, NullCount, UncompressedSizeInBytes, NaNCount}
@@ -7,7 +7,7 @@ use Rattle.rules.specs.Claims.{Claim, may_set}
 use Rattle.rules.specs.Column.{Column, ColumnLaws}
 use Rattle.rules.specs.Truth.{AllHold}
 use Rattle.rules.specs.Sets.{Entries, put, AllSettable}
-use Rattle.rules.specs.Merging.{rule, merged}
+use Rattle.rules.specs.Merging.{rule}
 use Rattle.rules.proofs.Merges.{merged_true}
 use Rattle.merge.specs.Merged.{Merges}
 

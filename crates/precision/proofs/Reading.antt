@@ -1,7 +1,7 @@
 -- A claim that is read from its text.
-use Rattle.std.proofs.Common.{◌≡◌, ℕ, List, ◌∷◌, codes, Result, sym, ap, ◌∙◌, subst, arith}
+use Rattle.std.proofs.Common.{◌≡◌, ℕ, List, ◌∷◌, codes, Result, subst, arith}
 use Rattle.precision.specs.declared.precision.Precision.{Precision}
-use Rattle.precision.specs.declared.precision.Precision.TheVariants.{Exact, Inexact, Absent}
+use Rattle.precision.specs.declared.precision.Precision.TheVariants.{Exact, Inexact}
 use Rattle.precision.specs.Claims.{transposed}
 use Rattle.precision.specs.Texts.{ReadsClaim}
 

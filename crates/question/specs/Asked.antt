@@ -1,5 +1,5 @@
 -- The two questions that there are: which rows match, and of which claims they say skip.
-use Rattle.std.specs.Prelude.{ℕ, Bool, true, false, not, ◌&&◌, ◌||◌, Some, None, Option, nat_eq}
+use Rattle.std.specs.Prelude.{Bool, true, false, not, ◌&&◌, ◌||◌, Some, None, Option, nat_eq}
 use Rattle.std.specs.declared.cmp.Ordering.{Ordering}
 use Rattle.stat.specs.declared.Stat.TheVariants.{Max, Min, NullCount}
 use Rattle.precision.specs.Claims.{value_of}

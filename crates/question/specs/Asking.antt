@@ -1,8 +1,7 @@
 -- What the two questions promise: where they say skip, none of the rows of which the claims are true matches.
-use Rattle.std.specs.Prelude.{◌≡◌, ℕ, ◌+◌, ◌≤◌, Bool, true, false, not, ◌&&◌, ◌||◌, List, [], ◌∷◌, Some, None, Option, ◌≢◌, nat_eq, refl}
-use Rattle.std.specs.declared.cmp.Ordering.{Ordering}
-use Rattle.std.proofs.Common.{sym, ap, subst, ◌∙◌, inl, inr, arith}
-use Rattle.std.proofs.lemmas.Bool.{cases_Bool, or_cases, and_left, and_right, not_from_true, not_from_false, eqb-true, true≢false, false≢true}
+use Rattle.std.specs.Prelude.{◌≡◌, ℕ, ◌≤◌, Bool, true, false, not, ◌||◌, List, [], ◌∷◌, Some, None, Option, ◌≢◌, nat_eq, refl}
+use Rattle.std.proofs.Common.{sym, subst, ◌∙◌, inl, inr, arith}
+use Rattle.std.proofs.lemmas.Bool.{cases_Bool, or_cases, and_left, and_right, not_from_true, eqb-true, true≢false, false≢true}
 use Rattle.stat.specs.declared.Stat.TheVariants.{Max, Min, NullCount}
 use Rattle.precision.specs.declared.precision.Precision.{Precision}
 use Rattle.precision.specs.declared.precision.Precision.TheVariants.{Exact, Inexact, Absent}
@@ -10,11 +9,10 @@ use Rattle.precision.specs.Claims.{value_of}
 use Rattle.order.specs.Order.{OrderLaws, below, above}
 use Rattle.order.proofs.Orders.{above_round, below_through}
 use Rattle.stat_bound.specs.Bounds.{Says}
-use Rattle.rules.specs.Column.{Column, ColumnLaws}
+use Rattle.rules.specs.Column.{Column}
 use Rattle.rules.specs.Rows.{Row, In, here, later, Every, elements, nulls, NoneAbove, NoneBelow}
 use Rattle.rules.specs.Claims.{element_claim, count_claim}
-use Rattle.rules.specs.Truth.{AllHold}
-use Rattle.rules.specs.Sets.{Entries, got}
+use Rattle.rules.specs.Sets.{got}
 use Rattle.rules.proofs.Lists.{every_in, in_every}
 use Rattle.rules.proofs.Sets.{got_holds}
 use Rattle.book.specs.Law.{Honest}

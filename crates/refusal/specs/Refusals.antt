@@ -1,5 +1,5 @@
 -- What a call that declines returns: one number and at most one value for each case.
-use Rattle.std.specs.Prelude.{ℕ, List, [], ◌∷◌, ◌++◌, Some, None, Ok, Err, codes, decimal, Option, Result}
+use Rattle.std.specs.Prelude.{ℕ, List, ◌++◌, Some, None, Ok, Err, codes, decimal, Option, Result}
 use Rattle.stat.specs.Stats.{stat_number}
 use Rattle.refusal.specs.declared.Refusal.{Refusal}
 use Rattle.refusal.specs.declared.Refusal.TheVariants.{WrongKind, Contradiction, NoZone, SameZone, CellsFull, RecordsFull, NoOpenRow, ShortBuffer}

@@ -1,7 +1,6 @@
 -- A set of statistics as the list of its entries, in the order of first setting.
 use Rattle.std.specs.Prelude.{◌≡◌, Bool, true, false, cond, List, [], ◌∷◌, ◌++◌}
 use Rattle.stat.specs.declared.Stat.{Stat}
-use Rattle.stat.specs.declared.Stat.TheVariants.{IsConstant, IsSorted, IsStrictSorted, Max, Min, Sum, NullCount, UncompressedSizeInBytes, NaNCount}
 use Rattle.precision.specs.declared.precision.Precision.TheVariants.{Absent}
 use Rattle.rules.specs.declared.statement.Statement.{Statement}
 use Rattle.rules.specs.Rows.{Every}

@@ -1,13 +1,12 @@
 -- The laws of the three bounds: an intersection keeps what both sides allow, and is Empty only where nothing is; a union allows the one picked of two.
 use Rattle.std.specs.Prelude.{◌≡◌, Bool, true, false, cond, refl}
 use Rattle.std.specs.declared.cmp.Ordering.{Ordering}
-use Rattle.std.proofs.Common.{sym, ap, ap₂, subst, ◌∙◌}
+use Rattle.std.proofs.Common.{sym, ap₂, subst, ◌∙◌}
 use Rattle.std.proofs.lemmas.Bool.{true≢false, false≢true, both_ways, cond-false, cond_both}
 use Rattle.order.specs.Order.{OrderLaws, same, below, above, lesser, greater}
 use Rattle.order.proofs.Orders.{Strict, below_strict, above_strict, same_is, same_of, first, first_over_left, first_over_right}
 use Rattle.precision.specs.declared.precision.Precision.{Precision}
 use Rattle.precision.specs.declared.precision.Precision.TheVariants.{Exact, Inexact, Absent}
-use Rattle.precision.specs.Claims.{is_absent}
 use Rattle.stat_bound.specs.declared.IntersectionResult.TheVariants.{Value, Empty}
 use Rattle.stat_bound.specs.Bounds.{Says, Meets, IntersectionLaw, UnionLaw, PrecisionAllows, precision_union, precision_intersection, bound_equals, Equates, union_by, intersection_by, lower_union, lower_intersection, upper_union, upper_intersection, LowerAllows, UpperAllows}
 

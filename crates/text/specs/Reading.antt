@@ -1,5 +1,5 @@
 -- How claims and statements are read.
-use Rattle.std.specs.Prelude.{◌≡◌, ℕ, ◌<◌, Bool, List, ◌∷◌, ◌++◌, length, Some, None, Ok, Err, Option, Result, MatchOption, ◌≢◌, slice_index}
+use Rattle.std.specs.Prelude.{◌≡◌, ℕ, ◌<◌, Bool, List, ◌∷◌, ◌++◌, length, Some, None, Option, Result, MatchOption, ◌≢◌, slice_index}
 use Rattle.std.specs.declared.num.ParseIntError.{ParseIntError}
 use Rattle.std.specs.declared.str.ParseBoolError.{ParseBoolError}
 use Rattle.std.specs.Str.Parse.{ExplainsUnsignedError, ParsesUnsigned, HasUnsignedDigitsIfOk, ParsesBool}

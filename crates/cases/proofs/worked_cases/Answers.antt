@@ -1,8 +1,7 @@
-use Rattle.std.proofs.Common.{◌≡◌, true, [], ◌∷◌, None, refl, ap, ◌∙◌, rules}
+use Rattle.std.proofs.Common.{[], ◌∷◌, None, ap, ◌∙◌, rules}
 use Rattle.stat.specs.declared.Stat.TheVariants.{IsConstant, IsSorted, IsStrictSorted, Min, Sum, NullCount, UncompressedSizeInBytes}
 use Rattle.rules.specs.Sets.{got}
 use Rattle.rules.specs.Counting.{counted}
-use Rattle.set.specs.Viewed.{entries}
 use Rattle.cases.specs.Listed.{measure_column}
 use Rattle.cases.proofs.Zones.{one, two, zones_at, one_at, two_at}
 use Rattle.cases.proofs.worked_cases.Goals as goal

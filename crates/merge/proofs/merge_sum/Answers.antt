@@ -1,4 +1,4 @@
-use Rattle.std.proofs.Common.{◌≡◌, true, ap, ◌∙◌, ap₂}
+use Rattle.std.proofs.Common.{true, ap, ◌∙◌, ap₂}
 use Rattle.precision.specs.Claims.{mapped}
 use Rattle.stat.specs.declared.Stat.TheVariants.{Sum as Total}
 use Rattle.rules.specs.declared.statement.StatValue.TheVariants.{Sum}

@@ -1,5 +1,4 @@
 use Rattle.std.proofs.Common.{length, refl, ap, ◌∙◌}
-use Rattle.std.specs.List.{slice_get}
 use Rattle.rules.specs.Column.{column, ColumnLaws}
 use Rattle.counting.proofs.Telling.{tells_counted}
 use Rattle.counting.proofs.LiveCountStatsProvider.len.Goals as goal

@@ -1,7 +1,7 @@
-use Rattle.std.proofs.Common.{◌≡◌, true, sym, subst}
+use Rattle.std.proofs.Common.{true}
 use Rattle.rules.specs.Column.{column, ColumnLaws}
 use Rattle.rules.specs.Sets.{put}
-use Rattle.rules.specs.Merging.{rule, merged}
+use Rattle.rules.specs.Merging.{rule}
 use Rattle.set.specs.Viewed.{entries}
 use Rattle.set.proofs.Properly.{set_proper}
 use Rattle.merge.proofs.Stepping.{steps_done, merge_owed}

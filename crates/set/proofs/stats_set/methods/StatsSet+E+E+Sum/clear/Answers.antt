@@ -1,8 +1,7 @@
-use Rattle.std.proofs.Common.{◌≡◌, ◌∙◌}
+use Rattle.std.proofs.Common.{◌∙◌}
 use Rattle.stat.specs.Stats.{stat_number}
 use Rattle.listing.specs.Nines.{nth_nine}
 use Rattle.rules.specs.Column.{column}
-use Rattle.rules.specs.Sets.{without}
 use Rattle.claims.proofs.Views.{retained_others}
 use Rattle.set.specs.Viewed.{entries}
 use Rattle.set.proofs.Properly.{cleared_true}

@@ -1,4 +1,4 @@
-use Rattle.std.proofs.Common.{◌≡◌, ◌∙◌}
+use Rattle.std.proofs.Common.{◌∙◌}
 use Rattle.stat.specs.Stats.{stat_number}
 use Rattle.listing.specs.Nines.{nth_nine}
 use Rattle.claims.specs.Entries.{has_stat}
