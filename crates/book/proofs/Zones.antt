@@ -18,7 +18,7 @@ module _ {V S : Type 0} where
   pub zone_of_later : (n : ℕ) (z : Zone V S) (zs : List (Zone V S)) → (n ≡ z.number → ⊥) → zone_of (z ∷ zs) n ≡ zone_of zs n
   zone_of_later n z zs ne = cond-false (eqb n z.number) (Some z) (zone_of zs n) (ne_eqb n z.number ne)
 
-  -- with-zone's first zone computes to this test, so that a proof rewrites by these two
+  -- with_zone's first zone computes to this test, so that a proof rewrites by these two
   pub changed_here : (f : Zone V S → Zone V S) (n : ℕ) (z : Zone V S) → n ≡ z.number → cond (eqb n z.number) (f z) z ≡ f z
   changed_here f n z e = cond-true (eqb n z.number) (f z) z (eq-eqb n z.number e)
 

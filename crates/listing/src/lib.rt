@@ -144,9 +144,8 @@ impl Listing<Stat> {
         let len = self.len();
         for i in 0..len {
             let stat = self.order.at(i);
-            match keep.at(stat.number() as usize) {
-                true => chosen.push(stat),
-                false => (),
+            if keep.at(stat.number() as usize) {
+                chosen.push(stat);
             }
         }
         *self = chosen;

@@ -5,6 +5,6 @@ use Rattle.rules.specs.Sets.{Entries}
 use Rattle.set.specs.declared.stats_set.StatsSet.{StatsSet}
 use Rattle.claims.specs.Entries.{entries_of, counts}
 
--- `has-sums` tells whether the column has sums
+-- `has_sums` tells whether the column has sums
 abbrev pub entries : {V S : Type 0} → Bool → StatsSet V S → Entries V S
 entries has_sums s = entries_of s.claims (filter (counts has_sums) (listed s.order))

@@ -1,7 +1,7 @@
 // Measures as elements: a measure is its own sum, and two add where the total fits 64 signed bits.
 ghost use Rattle.columns.specs.Measures.{measure_sums};
 ghost use Rattle.columns.specs.MeasuresLemmas.{measures_summed};
-ghost use Rattle.std.proofs.Common.{rules, arith};
+ghost use Rattle.std.proofs.Common.{rules};
 
 use crate::measure::Measure;
 use rules::element::Element;
@@ -15,7 +15,7 @@ impl Element for Measure {
 
     ghost sums = { measure_sums };
 
-    ghost narrow = { first_of (Prim.search rules, Prim.grind (arith, Self.row.coded.inj)) };
+    ghost narrow = { Prim.search rules };
 
     ghost summed = { λ _. measures_summed };
 

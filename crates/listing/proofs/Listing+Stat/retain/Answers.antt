@@ -5,7 +5,7 @@ use Rattle.listing.specs.Nines.{nth_nine}
 use Rattle.listing.specs.Listed.{listed}
 use Rattle.listing.proofs.Listings.{listed_few, listed_at, pushed_kept, passed_over}
 use Rattle.listing.proofs.Listing+Stat.retain.Goals as goal
-use Rattle.listing.proofs.Listing+Stat.retain.Goals.{in-true, in-false}
+use Rattle.listing.proofs.Listing+Stat.retain.Goals.{then-at, else-at}
 
 pub loop-i-preserved : goal.loop-i-preserved
 loop-i-preserved c =
@@ -17,8 +17,8 @@ loop-i-preserved c =
     let read : get_or (listed self) i x ≡ x = listed_at self i x within ∙ sym c.at-stat.ensures in
     let mark : marked x ≡ c.at.result = sym (c.at.ensures ∙ ap (nth_nine c.args.keep.now) c.number.ensures) in
     elim c.if-at.branch [
-      | in-true w ↦ ap listed w.chosen-is ∙ pushed_kept marked (listed self) (listed_few self) i within x read (listed c.loop-i.chosen) c.loop-i.invariant _ (mark ∙ w.in-true.is) w.push.ensures
-      | in-false w ↦ ap listed w.chosen-is ∙ passed_over marked (listed self) (listed_few self) i within x read (listed c.loop-i.chosen) c.loop-i.invariant (mark ∙ w.in-false.is)
+      | then-at w ↦ ap listed w.chosen-is ∙ pushed_kept marked (listed self) (listed_few self) i within x read (listed c.loop-i.chosen) c.loop-i.invariant _ (mark ∙ w.if-at.true) w.push.ensures
+      | else-at w ↦ ap listed w.chosen-is ∙ passed_over marked (listed self) (listed_few self) i within x read (listed c.loop-i.chosen) c.loop-i.invariant (mark ∙ w.if-at.false)
     ]
 
 pub returns : goal.returns
