@@ -9,7 +9,7 @@ use order::ordered::Ordered;
 use precision::precision::Precision;
 use rules::element::Element;
 use rules::provider::StatsProvider;
-use rules::statement::{StatValue, Statement};
+use statement::{StatValue, Statement};
 use set::stats_set::StatsSet;
 use stat::Stat;
 use stat_bound::{IntersectionResult, StatBound};

@@ -6,7 +6,7 @@ use Rattle.refusal.specs.declared.Refusal.{Refusal}
 use Rattle.refusal.specs.Refusals.{refusal_number, refusal_value}
 use Rattle.rules.specs.Column.{Column}
 use Rattle.rules.specs.Rows.{Row}
-use Rattle.rules.specs.Claims.{Claim}
+use Rattle.statement.specs.Kinds.{Claim}
 use Rattle.rules.specs.Sets.{Entries, got}
 use Rattle.rules.specs.Combining.{against}
 use Rattle.book.specs.Book.{Zone, Book, Call, append, close, merge, combine, clear, retain_only, get, seek, zone_of, usable_cells, usable_records, after}

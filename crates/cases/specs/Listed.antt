@@ -3,7 +3,7 @@ use Rattle.std.specs.Prelude.{◌≡◌, true, false, pos, Some}
 use Rattle.precision.specs.declared.precision.Precision.TheVariants.{Exact, Inexact, Absent}
 use Rattle.stat_bound.specs.declared.IntersectionResult.TheVariants.{Value, Empty}
 use Rattle.precision.specs.Claims.{mapped}
-use Rattle.rules.specs.declared.statement.StatValue.TheVariants.{Flag, Element, Sum, Count}
+use Rattle.statement.specs.declared.StatValue.TheVariants.{Flag, Element, Sum, Count}
 use Rattle.rules.specs.Column.{Column, column}
 use Rattle.rules.specs.Merging.{exactly}
 use Rattle.columns.specs.declared.measure.Measure.{Measure}

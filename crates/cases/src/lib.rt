@@ -13,7 +13,7 @@ use lower_bound::LowerBound;
 use merge::MergeSets;
 use precision::precision::Precision;
 use precision::precision::Precision::{Exact, Inexact};
-use rules::statement::StatValue;
+use statement::StatValue;
 use set::stats_set::StatsSet;
 use stat::Stat;
 use stat_bound::{IntersectionResult, StatBound};

@@ -7,9 +7,10 @@ use Rattle.precision.specs.Claims.{mapped}
 use Rattle.stat.specs.declared.Stat.{Stat}
 use Rattle.stat.specs.declared.Stat.TheVariants.{IsConstant, IsSorted, IsStrictSorted, Max, Min, Sum as Total, NullCount, UncompressedSizeInBytes, NaNCount}
 use Rattle.stat.specs.Stats.{stat_number, same_stat}
-use Rattle.rules.specs.declared.statement.StatValue.{StatValue}
-use Rattle.rules.specs.declared.statement.StatValue.TheVariants.{Flag, Element, Sum, Count}
-use Rattle.rules.specs.Claims.{Claim, claimed, parted, some?, flag_in, element_in, sum_in, count_in, flag_claim, element_claim, sum_claim, count_claim, takes, may_set}
+use Rattle.statement.specs.declared.StatValue.{StatValue}
+use Rattle.statement.specs.declared.StatValue.TheVariants.{Flag, Element, Sum, Count}
+use Rattle.rules.specs.Claims.{some?, takes, may_set}
+use Rattle.statement.specs.Kinds.{Claim, claimed, parted, flag_in, element_in, sum_in, count_in, flag_claim, element_claim, sum_claim, count_claim}
 use Rattle.listing.specs.declared.Nine.{Nine}
 use Rattle.listing.specs.Nines.{nth_nine}
 use Rattle.claims.specs.declared.Claims.{Claims}

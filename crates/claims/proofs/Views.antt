@@ -10,10 +10,11 @@ use Rattle.precision.specs.Claims.{is_absent, mapped}
 use Rattle.stat.specs.declared.Stat.{Stat}
 use Rattle.stat.specs.declared.Stat.TheVariants.{IsConstant, IsSorted, IsStrictSorted, Max, Min, Sum as Total, NullCount, UncompressedSizeInBytes, NaNCount}
 use Rattle.stat.specs.Stats.{stat_number, same_stat}
-use Rattle.rules.specs.declared.statement.StatValue.TheVariants.{Flag, Element, Sum, Count}
+use Rattle.statement.specs.declared.StatValue.TheVariants.{Flag, Element, Sum, Count}
 use Rattle.rules.specs.Rows.{Every}
-use Rattle.rules.specs.Claims.{Claim, settable, may_set}
-use Rattle.rules.specs.Sets.{Entries, stated, got, has, without, retained, replaced, put, Apart, AllSettable, Proper}
+use Rattle.rules.specs.Claims.{settable, may_set}
+use Rattle.statement.specs.Kinds.{Claim, stated}
+use Rattle.rules.specs.Sets.{Entries, got, has, without, retained, replaced, put, Apart, AllSettable, Proper}
 use Rattle.rules.proofs.Claims.{kind_settable}
 use Rattle.rules.proofs.Sets.{same_stat_is, stat_itself, neither}
 use Rattle.listing.specs.declared.Nine.{Nine}

@@ -6,9 +6,9 @@ use Rattle.precision.specs.Claims.{mapped}
 use Rattle.stat.specs.declared.Stat.{Stat}
 use Rattle.stat.specs.declared.Stat.TheVariants.{IsConstant, IsSorted, IsStrictSorted, Max, Min, Sum as Total, NullCount, UncompressedSizeInBytes, NaNCount}
 use Rattle.stat.specs.Stats.{stat_number, same_stat}
-use Rattle.rules.specs.declared.statement.StatValue.TheVariants.{Flag, Element, Sum, Count}
-use Rattle.rules.specs.Claims.{Claim, flag_claim, element_claim, sum_claim, count_claim}
-use Rattle.rules.specs.Sets.{Entries, stated}
+use Rattle.statement.specs.declared.StatValue.TheVariants.{Flag, Element, Sum, Count}
+use Rattle.statement.specs.Kinds.{Claim, flag_claim, element_claim, sum_claim, count_claim, stated}
+use Rattle.rules.specs.Sets.{Entries}
 use Rattle.listing.specs.declared.Nine.{Nine}
 use Rattle.claims.specs.declared.Claims.{Claims}
 

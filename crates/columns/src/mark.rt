@@ -1,5 +1,5 @@
 // A mark: a lot by its number, and a piece of the lot by its number.
-ghost use Rattle.std.specs.Prelude.{◌≡◌, Some};
+ghost use Rattle.std.specs.Prelude.{◌≡◌, Some, false};
 ghost use Rattle.columns.specs.Marks.{mark, mark_order, mark_sums, mark_bytes, SortsBytes};
 ghost use Rattle.columns.specs.Texts.{mark_text, mark_of, ReadsMark};
 ghost use Rattle.std.proofs.Common.{rules};
@@ -12,7 +12,8 @@ use std::fmt;
 use std::num::ParseIntError;
 use std::str::FromStr;
 
-#[derive(Clone, Copy, PartialEq, Eq, Debug)]
+// By lot, and of one lot by piece.
+#[derive(Clone, Copy, PartialEq, Eq, PartialOrd, Ord, Debug)]
 pub struct Mark {
     lot: u32,
     piece: u32,
@@ -48,24 +49,13 @@ impl Mark {
     }
 }
 
-// by lot, and of one lot by piece
 impl Ordered for Mark {
     ghost order = { mark_order };
 
     ghost ordered = { Prim.search rules };
 
     fn compare(self, other: Mark) -> Ordering {
-        if self.lot < other.lot {
-            Ordering::Less
-        } else if other.lot < self.lot {
-            Ordering::Greater
-        } else if self.piece < other.piece {
-            Ordering::Less
-        } else if other.piece < self.piece {
-            Ordering::Greater
-        } else {
-            Ordering::Equal
-        }
+        self.cmp(&other)
     }
 }
 
@@ -77,19 +67,19 @@ impl Element for Mark {
 
     const HAS_SUMS: bool = false;
 
+    ghost WIDTH = { 8 };
+
+    ghost HAS_SUMS = { false };
+
     ghost sums = { mark_sums };
+
+    ghost wide = { Prim.search rules };
+
+    ghost adding = { Prim.search rules };
 
     ghost narrow = { Prim.search rules };
 
     ghost summed = { Prim.search rules };
-
-    fn bytes() -> u64 {
-        Self::WIDTH
-    }
-
-    fn sums() -> bool {
-        Self::HAS_SUMS
-    }
 
     fn zero() -> Measure {
         Measure::zero()
@@ -109,9 +99,7 @@ impl fmt::Display for Mark {
     ghost output = { λ m. Some (mark_text m) };
 
     fn fmt<W: fmt::Write>(&self, f: &mut fmt::Formatter<W>) -> fmt::Result {
-        let lot = self.lot;
-        let piece = self.piece;
-        write!(f, "{lot}:{piece}")
+        write!(f, "{}:{}", self.lot, self.piece)
     }
 }
 
@@ -126,20 +114,6 @@ pub enum ParseMarkError {
     Piece(ParseIntError),
 }
 
-// The mark of the two numbers; of two errors the lot's.
-fn joined(
-    lot: Result<u32, ParseIntError>,
-    piece: Result<u32, ParseIntError>,
-) -> Result<Mark, ParseMarkError>
-    ensures { result ≡ mark_of lot piece }
-{
-    match (lot, piece) {
-        (Ok(lot), Ok(piece)) => Ok(Mark::new(lot, piece)),
-        (Err(error), _) => Err(ParseMarkError::Lot(error)),
-        (_, Err(error)) => Err(ParseMarkError::Piece(error)),
-    }
-}
-
 // `LOT:PIECE`, parted at the first `:`
 impl FromStr for Mark {
     type Err = ParseMarkError;
@@ -150,6 +124,11 @@ impl FromStr for Mark {
         let Some((before, behind)) = s.split_once(':') else {
             return Err(ParseMarkError::NoColon);
         };
-        joined(u32::from_str(before), u32::from_str(behind))
+        let lot = u32::from_str(before);
+        let piece = u32::from_str(behind);
+        Ok(Mark::new(
+            lot.map_err(ParseMarkError::Lot)?,
+            piece.map_err(ParseMarkError::Piece)?,
+        ))
     }
 }

@@ -12,7 +12,7 @@ use std::str::FromStr;
 mod element;
 mod ordered;
 
-#[derive(Copy, PartialEq, Eq, Debug)]
+#[derive(Copy, PartialEq, Eq, PartialOrd, Ord, Debug)]
 pub struct Measure {
     value: i64,
     // it is from -2 ^ 63 up to and without 2 ^ 63: `mag` is n of both n and -(n + 1)
@@ -49,8 +49,7 @@ impl fmt::Display for Measure {
     ghost output = { λ m. Some (signed_decimal m.value) };
 
     fn fmt<W: fmt::Write>(&self, f: &mut fmt::Formatter<W>) -> fmt::Result {
-        let value = self.value;
-        write!(f, "{value}")
+        write!(f, "{}", self.value)
     }
 }
 
@@ -61,9 +60,6 @@ impl FromStr for Measure {
     ghost from_str_gives = { λ bs r. ReadsI64 bs (numbered (λ m. m.value) r) };
 
     fn from_str(s: &str) -> Result<Measure, ParseIntError> {
-        match i64::from_str(s) {
-            Ok(value) => Ok(Measure::new(value)),
-            Err(error) => Err(error),
-        }
+        Ok(Measure::new(i64::from_str(s)?))
     }
 }

@@ -7,9 +7,10 @@ use Rattle.precision.specs.declared.precision.Precision.TheVariants.{Exact, Inex
 use Rattle.precision.specs.Claims.{is_absent}
 use Rattle.stat.specs.declared.Stat.{Stat}
 use Rattle.stat.specs.Stats.{same_stat}
-use Rattle.rules.specs.declared.statement.Statement.{Statement}
+use Rattle.statement.specs.declared.Statement.{Statement}
 use Rattle.rules.specs.Column.{Column, ColumnLaws}
-use Rattle.rules.specs.Claims.{Claim, settable, may_set}
+use Rattle.rules.specs.Claims.{settable, may_set}
+use Rattle.statement.specs.Kinds.{Claim}
 use Rattle.rules.specs.Truth.{AllHold}
 use Rattle.rules.specs.Sets.{Entries, got, has, put, AllSettable, Proper}
 use Rattle.rules.specs.Combining.{intersected, joined, combined, against}

@@ -5,7 +5,7 @@ use Rattle.precision.specs.Claims.{mapped}
 use Rattle.stat.specs.declared.Stat.{Stat}
 use Rattle.stat.specs.Stats.{stat_number}
 use Rattle.refusal.specs.Refusals.{Declined, declined}
-use Rattle.rules.specs.declared.statement.Statement.{Statement}
+use Rattle.statement.specs.declared.Statement.{Statement}
 use Rattle.rules.specs.Column.{Column}
 use Rattle.rules.specs.Rows.{Row}
 use Rattle.rules.specs.Truth.{AllHold}

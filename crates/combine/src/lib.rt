@@ -2,7 +2,7 @@
 // Combining statements about the same rows into a set.
 ghost use Rattle.std.specs.Prelude.{◌≡◌, true, List, if◌then◌else◌, Some as Just, Option as Maybe};
 ghost use Rattle.precision.specs.Claims.{is_absent};
-ghost use Rattle.rules.specs.declared.statement.Statement.{Statement as Said};
+ghost use Rattle.statement.specs.declared.Statement.{Statement as Said};
 ghost use Rattle.refusal.specs.Refusals.{refused, Declined};
 ghost use Rattle.rules.specs.Column.{column};
 ghost use Rattle.rules.specs.Claims.{settable, may_set};
@@ -15,7 +15,7 @@ use precision::precision::Precision;
 use refusal::Refusal;
 use rules::element::Element;
 use rules::provider::StatsProvider;
-use rules::statement::{StatValue, Statement};
+use statement::{StatValue, Statement};
 use set::stats_set::StatsSet;
 use stat::Stat;
 use stat_type::{

@@ -5,7 +5,7 @@ use columns::measure::Measure;
 use counting::{LiveCount, count};
 use precision::precision::Precision;
 use rules::provider::StatsProvider;
-use rules::statement::StatValue;
+use statement::StatValue;
 use set::stats_set::StatsSet;
 use stat::Stat;
 use std::io;

@@ -9,11 +9,12 @@ use Rattle.precision.specs.Claims.{mapped}
 use Rattle.stat.specs.declared.Stat.{Stat}
 use Rattle.stat.specs.declared.Stat.TheVariants.{IsConstant, IsSorted, IsStrictSorted, Max, Min, Sum as Total, NullCount, UncompressedSizeInBytes, NaNCount}
 use Rattle.stat.specs.Stats.{all_stats}
-use Rattle.rules.specs.declared.statement.StatValue.{StatValue}
-use Rattle.rules.specs.declared.statement.StatValue.TheVariants.{Element, Sum, Count}
+use Rattle.statement.specs.declared.StatValue.{StatValue}
+use Rattle.statement.specs.declared.StatValue.TheVariants.{Element, Sum, Count}
 use Rattle.rules.specs.Column.{Column, ColumnLaws, Sums}
 use Rattle.rules.specs.Rows.{Row, elements}
-use Rattle.rules.specs.Claims.{Claim, some?, takes, may_set}
+use Rattle.rules.specs.Claims.{some?, takes, may_set}
+use Rattle.statement.specs.Kinds.{Claim}
 use Rattle.rules.specs.Truth.{Tells, AllHold}
 use Rattle.rules.specs.Merging.{exactly}
 use Rattle.rules.specs.Sets.{Entries, put, stats_of, has}

@@ -5,8 +5,8 @@ use Rattle.precision.specs.Claims.{mapped}
 use Rattle.order.specs.Order.{below, above, lesser, greater}
 use Rattle.stat.specs.declared.Stat.{Stat}
 use Rattle.stat.specs.declared.Stat.TheVariants.{IsConstant, IsSorted, IsStrictSorted, Max, Min, Sum as Total, NullCount, UncompressedSizeInBytes, NaNCount}
-use Rattle.rules.specs.declared.statement.StatValue.{StatValue}
-use Rattle.rules.specs.declared.statement.StatValue.TheVariants.{Flag, Element, Sum, Count}
+use Rattle.statement.specs.declared.StatValue.{StatValue}
+use Rattle.statement.specs.declared.StatValue.TheVariants.{Flag, Element, Sum, Count}
 use Rattle.rules.specs.Column.{Column, ColumnLaws}
 use Rattle.rules.specs.Rows.{Row, elements, nulls}
 use Rattle.rules.specs.Merging.{exactly}

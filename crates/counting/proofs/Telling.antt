@@ -8,9 +8,8 @@ use Rattle.stat.specs.Stats.{all_stats}
 use Rattle.precision.specs.Claims.{is_absent}
 use Rattle.rules.specs.Column.{Column, ColumnLaws}
 use Rattle.rules.specs.Rows.{Row}
-use Rattle.rules.specs.declared.statement.Statement.{Statement}
-use Rattle.rules.specs.Claims.{Claim}
-use Rattle.rules.specs.Sets.{stated}
+use Rattle.statement.specs.declared.Statement.{Statement}
+use Rattle.statement.specs.Kinds.{Claim, stated}
 use Rattle.rules.specs.Counting.{counted_claim, counted}
 use Rattle.rules.proofs.Counted.{told, counted_told}
 use Rattle.counting.specs.declared.tally.Tally.{Tally}

@@ -7,12 +7,12 @@ use Rattle.precision.specs.declared.precision.Precision.TheVariants.{Exact, Abse
 use Rattle.precision.specs.Claims.{mapped, is_absent}
 use Rattle.stat.specs.declared.Stat.{Stat}
 use Rattle.stat.specs.declared.Stat.TheVariants.{IsConstant, IsSorted, IsStrictSorted, Max, Min, Sum as Total, NullCount, UncompressedSizeInBytes, NaNCount}
-use Rattle.rules.specs.declared.statement.StatValue.TheVariants.{Flag, Element, Sum, Count}
+use Rattle.statement.specs.declared.StatValue.TheVariants.{Flag, Element, Sum, Count}
 use Rattle.rules.specs.Column.{Sums}
 use Rattle.rules.specs.Rows.{Row}
-use Rattle.rules.specs.Claims.{Claim}
+use Rattle.statement.specs.Kinds.{Claim, stated}
 use Rattle.rules.specs.Merging.{exactly}
-use Rattle.rules.specs.Sets.{Entries, put, stated}
+use Rattle.rules.specs.Sets.{Entries, put}
 use Rattle.counting.specs.declared.tally.Seen.{Seen}
 use Rattle.counting.specs.declared.tally.Tally.{Tally}
 

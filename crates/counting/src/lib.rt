@@ -10,7 +10,7 @@ ghost use Rattle.counting.specs.Tallied.{fresh, with_row};
 
 use rules::element::Element;
 use rules::provider::StatsProvider;
-use rules::statement::Statement;
+use statement::Statement;
 use set::stats_set::StatsSet;
 use tally::Tally;
 

@@ -12,7 +12,7 @@ use claims::{of_count, of_element, of_flag, of_sum};
 use order::ordered::Ordered;
 use precision::precision::Precision;
 use rules::element::Element;
-use rules::statement::{StatValue, Statement};
+use statement::{StatValue, Statement};
 use set::stats_set::StatsSet;
 use stat::Stat;
 use std::cmp::Ordering;

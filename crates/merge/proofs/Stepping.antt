@@ -3,7 +3,8 @@ use Rattle.std.proofs.Common.{◌≡◌, Bool, true, cond, ◌++◌, sym, ap, �
 use Rattle.std.proofs.lemmas.Bool.{cond-true}
 use Rattle.stat.specs.declared.Stat.{Stat}
 use Rattle.stat.specs.declared.Stat.TheVariants.{IsConstant, IsSorted, IsStrictSorted, Max, Min, Sum as Total, NullCount, UncompressedSizeInBytes, NaNCount}
-use Rattle.rules.specs.Claims.{Claim, may_set}
+use Rattle.rules.specs.Claims.{may_set}
+use Rattle.statement.specs.Kinds.{Claim}
 use Rattle.rules.specs.Column.{Column, ColumnLaws}
 use Rattle.rules.specs.Truth.{AllHold}
 use Rattle.rules.specs.Sets.{Entries, put, AllSettable}

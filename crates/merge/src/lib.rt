@@ -3,9 +3,10 @@
 ghost use Rattle.std.specs.Prelude.{◌≡◌, ℕ, Bool, true, false};
 ghost use Rattle.precision.specs.Claims.{mapped};
 ghost use Rattle.stat.specs.declared.Stat.TheVariants.{IsConstant, IsSorted, IsStrictSorted, Max, Min, Sum as Total, NullCount, UncompressedSizeInBytes, NaNCount};
-ghost use Rattle.rules.specs.declared.statement.StatValue.TheVariants.{Flag, Count};
+ghost use Rattle.statement.specs.declared.StatValue.TheVariants.{Flag, Count};
 ghost use Rattle.rules.specs.Column.{column};
-ghost use Rattle.rules.specs.Claims.{takes, flag_claim, element_claim, count_claim};
+ghost use Rattle.rules.specs.Claims.{takes};
+ghost use Rattle.statement.specs.Kinds.{flag_claim, element_claim, count_claim};
 ghost use Rattle.rules.specs.Sets.{got, put};
 ghost use Rattle.rules.specs.Merging.{rule, sorted_rule, count_rule};
 ghost use Rattle.set.specs.Viewed.{entries};

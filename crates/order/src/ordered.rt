@@ -24,11 +24,7 @@ impl Ordered for bool {
     ghost ordered = { Prim.search rules };
 
     fn compare(self, other: bool) -> Ordering {
-        match (self, other) {
-            (false, true) => Ordering::Less,
-            (true, false) => Ordering::Greater,
-            _ => Ordering::Equal,
-        }
+        self.cmp(&other)
     }
 }
 
@@ -38,13 +34,7 @@ impl Ordered for u64 {
     ghost ordered = { Prim.search rules };
 
     fn compare(self, other: u64) -> Ordering {
-        if self < other {
-            Ordering::Less
-        } else if other < self {
-            Ordering::Greater
-        } else {
-            Ordering::Equal
-        }
+        self.cmp(&other)
     }
 }
 
@@ -54,12 +44,6 @@ impl Ordered for i64 {
     ghost ordered = { Prim.search rules };
 
     fn compare(self, other: i64) -> Ordering {
-        if self > other {
-            Ordering::Greater
-        } else if self < other {
-            Ordering::Less
-        } else {
-            Ordering::Equal
-        }
+        self.cmp(&other)
     }
 }

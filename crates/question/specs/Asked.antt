@@ -5,7 +5,7 @@ use Rattle.stat.specs.declared.Stat.TheVariants.{Max, Min, NullCount}
 use Rattle.precision.specs.Claims.{value_of}
 use Rattle.order.specs.Order.{below, above}
 use Rattle.rules.specs.Rows.{Row}
-use Rattle.rules.specs.Claims.{element_claim, count_claim}
+use Rattle.statement.specs.Kinds.{element_claim, count_claim}
 use Rattle.rules.specs.Sets.{Entries, got}
 
 -- whether there is a value, and it passes

@@ -11,7 +11,7 @@ use Rattle.order.proofs.Orders.{above_round, below_through}
 use Rattle.stat_bound.specs.Bounds.{Says}
 use Rattle.rules.specs.Column.{Column}
 use Rattle.rules.specs.Rows.{Row, In, here, later, Every, elements, nulls, NoneAbove, NoneBelow}
-use Rattle.rules.specs.Claims.{element_claim, count_claim}
+use Rattle.statement.specs.Kinds.{element_claim, count_claim}
 use Rattle.rules.specs.Sets.{got}
 use Rattle.rules.proofs.Lists.{every_in, in_every}
 use Rattle.rules.proofs.Sets.{got_holds}

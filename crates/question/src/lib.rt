@@ -1,7 +1,7 @@
 #![tactic(auto)]
 // Questions about rows: which match, and whether a zone can be passed over by what is claimed of it.
 ghost use Rattle.std.specs.Prelude.{◌≡◌, Bool, List, Option as Maybe};
-ghost use Rattle.rules.specs.declared.statement.Statement.{Statement as Said};
+ghost use Rattle.statement.specs.declared.Statement.{Statement as Said};
 ghost use Rattle.rules.specs.Column.{column};
 ghost use Rattle.set.specs.Viewed.{entries};
 ghost use Rattle.book.specs.Law.{Honest};

@@ -5,11 +5,12 @@ use Rattle.stat.specs.declared.Stat.{Stat}
 use Rattle.stat.specs.declared.Stat.TheVariants.{IsConstant, IsSorted, IsStrictSorted, Max, Min, Sum as Total, NullCount, UncompressedSizeInBytes, NaNCount}
 use Rattle.precision.specs.declared.precision.Precision.{Precision}
 use Rattle.precision.specs.declared.precision.Precision.TheVariants.{Exact, Inexact, Absent}
-use Rattle.rules.specs.declared.statement.StatValue.{StatValue}
-use Rattle.rules.specs.declared.statement.StatValue.TheVariants.{Flag, Element, Sum, Count}
+use Rattle.statement.specs.declared.StatValue.{StatValue}
+use Rattle.statement.specs.declared.StatValue.TheVariants.{Flag, Element, Sum, Count}
 use Rattle.rules.specs.Column.{Column}
 use Rattle.rules.specs.Rows.{Row}
-use Rattle.rules.specs.Claims.{Claim, claimed, parted, some?, takes, settable, flag_in, element_in, sum_in, count_in, flag_claim, element_claim, sum_claim, count_claim}
+use Rattle.rules.specs.Claims.{some?, takes, settable}
+use Rattle.statement.specs.Kinds.{Claim, claimed, parted, flag_in, element_in, sum_in, count_in, flag_claim, element_claim, sum_claim, count_claim}
 use Rattle.precision.specs.Claims.{mapped, is_absent}
 use Rattle.rules.specs.Truth.{ClaimHolds}
 

@@ -2,12 +2,12 @@
 use Rattle.std.proofs.Common.{◌≡◌, ℕ, ◌*◌, ◌≤◌, List, [], ◌∷◌, length, Some, None, Option}
 use Rattle.stat.specs.declared.Stat.{Stat}
 use Rattle.stat.specs.declared.Stat.TheVariants.{IsConstant, IsSorted, IsStrictSorted, Max, Min, Sum as Total, NullCount, UncompressedSizeInBytes, NaNCount}
-use Rattle.rules.specs.declared.statement.StatValue.TheVariants.{Flag, Element, Sum, Count}
-use Rattle.rules.specs.declared.statement.Statement.{Statement}
+use Rattle.statement.specs.declared.StatValue.TheVariants.{Flag, Element, Sum, Count}
+use Rattle.statement.specs.declared.Statement.{Statement}
 use Rattle.order.specs.Order.{count_order, flag_order, below, above}
 use Rattle.rules.specs.Column.{Column}
 use Rattle.rules.specs.Rows.{Row, In, elements, nulls, NoTwoDiffer, NeverFall, AlwaysRise, NoneAbove, NoneBelow, number_total}
-use Rattle.rules.specs.Claims.{Claim, flag_claim, element_claim, sum_claim, count_claim}
+use Rattle.statement.specs.Kinds.{Claim, flag_claim, element_claim, sum_claim, count_claim}
 use Rattle.stat_bound.specs.Bounds.{Says, Always}
 use Rattle.rules.specs.Truth.{Tells, ClaimHolds, Holds, AllHold}
 use Rattle.rules.specs.Sets.{Entries, got, has, put}

@@ -5,12 +5,13 @@ use Rattle.stat.specs.declared.Stat.{Stat}
 use Rattle.stat.specs.declared.Stat.TheVariants.{IsConstant, IsSorted, IsStrictSorted, Max, Min, Sum as Total, NullCount, UncompressedSizeInBytes, NaNCount}
 use Rattle.precision.specs.declared.precision.Precision.{Precision}
 use Rattle.stat_bound.specs.declared.IntersectionResult.{IntersectionResult}
-use Rattle.rules.specs.declared.statement.StatValue.TheVariants.{Flag, Element, Sum, Count}
+use Rattle.statement.specs.declared.StatValue.TheVariants.{Flag, Element, Sum, Count}
 use Rattle.order.specs.Order.{OrderLaws, flag_order, count_order, below, above}
 use Rattle.order.proofs.Numbers.{flags_ordered, counts_ordered, not_above}
 use Rattle.rules.specs.Column.{Column, ColumnLaws}
 use Rattle.rules.specs.Rows.{Row, elements, nulls, NoTwoDiffer, NeverFall, AlwaysRise, number_total}
-use Rattle.rules.specs.Claims.{Claim, some?, flag_claim, element_claim, sum_claim, count_claim, settable}
+use Rattle.rules.specs.Claims.{some?, settable}
+use Rattle.statement.specs.Kinds.{Claim, flag_claim, element_claim, sum_claim, count_claim}
 use Rattle.stat_bound.specs.Bounds.{Says, Always, intersection_by, lower_intersection, upper_intersection, precision_intersection}
 use Rattle.rules.specs.Truth.{Tells, ClaimHolds}
 use Rattle.rules.specs.Combining.{met, intersected}

@@ -5,16 +5,17 @@ use Rattle.std.proofs.lemmas.Bool.{true≢false, false≢true, cond-true, cond-f
 use Rattle.stat.specs.declared.Stat.{Stat}
 use Rattle.stat.specs.declared.Stat.TheVariants.{IsConstant, IsSorted, IsStrictSorted, Max, Min, Sum as Total, NullCount, UncompressedSizeInBytes, NaNCount}
 use Rattle.precision.specs.declared.precision.Precision.TheVariants.{Exact, Absent}
-use Rattle.rules.specs.declared.statement.StatValue.{StatValue}
-use Rattle.rules.specs.declared.statement.StatValue.TheVariants.{Element, Sum, Count}
+use Rattle.statement.specs.declared.StatValue.{StatValue}
+use Rattle.statement.specs.declared.StatValue.TheVariants.{Element, Sum, Count}
 use Rattle.rules.specs.Column.{Column}
 use Rattle.rules.specs.Rows.{Row, Every, elements}
-use Rattle.rules.specs.Claims.{Claim, some?, settable}
+use Rattle.rules.specs.Claims.{some?, settable}
+use Rattle.statement.specs.Kinds.{Claim, stated}
 use Rattle.stat.specs.Stats.{same_stat, all_stats}
 use Rattle.precision.specs.Claims.{is_absent, mapped}
 use Rattle.order.specs.Order.{lesser, greater}
 use Rattle.rules.specs.Merging.{exactly}
-use Rattle.rules.specs.Sets.{Entries, Proper, chosen, stated, stats_of, got, has, without, replaced, put}
+use Rattle.rules.specs.Sets.{Entries, Proper, chosen, stats_of, got, has, without, replaced, put}
 use Rattle.rules.specs.Counting.{best, summed, any_element, counted_claim, counted_over, counted, is_counted}
 use Rattle.rules.proofs.Claims.{kind_settable}
 use Rattle.rules.proofs.Sets.{cond_either, same_stat_is, neither, every_put_nine, got_put_nine, apart_put_all}

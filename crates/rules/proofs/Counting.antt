@@ -4,7 +4,7 @@ use Rattle.std.proofs.lemmas.Bool.{cond_both}
 use Rattle.stat.specs.declared.Stat.{Stat}
 use Rattle.stat.specs.declared.Stat.TheVariants.{IsConstant, IsSorted, IsStrictSorted, Max, Min, Sum as Total, NullCount, UncompressedSizeInBytes, NaNCount}
 use Rattle.precision.specs.declared.precision.Precision.TheVariants.{Exact, Absent}
-use Rattle.rules.specs.declared.statement.StatValue.TheVariants.{Sum, Count}
+use Rattle.statement.specs.declared.StatValue.TheVariants.{Sum, Count}
 use Rattle.order.specs.Order.{below, above}
 use Rattle.rules.specs.Column.{Column, ColumnLaws}
 use Rattle.rules.specs.Rows.{Row, elements, NoneAbove, NoneBelow}

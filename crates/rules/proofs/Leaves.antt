@@ -4,11 +4,12 @@ use Rattle.stat.specs.declared.Stat.{Stat}
 use Rattle.stat.specs.declared.Stat.TheVariants.{IsConstant, IsSorted, IsStrictSorted, Max, Min, Sum as Total}
 use Rattle.precision.specs.declared.precision.Precision.{Precision}
 use Rattle.precision.specs.declared.precision.Precision.TheVariants.{Exact, Inexact, Absent}
-use Rattle.rules.specs.declared.statement.StatValue.TheVariants.{Flag, Element, Sum, Count}
+use Rattle.statement.specs.declared.StatValue.TheVariants.{Flag, Element, Sum, Count}
 use Rattle.order.specs.Order.{below, above}
 use Rattle.rules.specs.Column.{Column, ColumnLaws}
 use Rattle.rules.specs.Rows.{Row, Steps, elements, number_total}
-use Rattle.rules.specs.Claims.{Claim, settable, flag_claim, element_claim, sum_claim, count_claim}
+use Rattle.rules.specs.Claims.{settable}
+use Rattle.statement.specs.Kinds.{Claim, flag_claim, element_claim, sum_claim, count_claim}
 use Rattle.precision.specs.Claims.{mapped, exact_of, is_absent}
 use Rattle.stat_bound.specs.Bounds.{Says, Always, union_by, lower_union, upper_union}
 use Rattle.rules.specs.Truth.{Tells, ClaimHolds}

@@ -6,10 +6,11 @@ use Rattle.stat.specs.declared.Stat.{Stat}
 use Rattle.stat.specs.declared.Stat.TheVariants.{IsConstant, IsSorted, IsStrictSorted, Max, Min, Sum as Total, NullCount, UncompressedSizeInBytes, NaNCount}
 use Rattle.precision.specs.declared.precision.Precision.{Precision}
 use Rattle.precision.specs.declared.precision.Precision.TheVariants.{Absent, Exact, Inexact}
-use Rattle.rules.specs.declared.statement.StatValue.TheVariants.{Flag, Element, Sum, Count}
+use Rattle.statement.specs.declared.StatValue.TheVariants.{Flag, Element, Sum, Count}
 use Rattle.rules.specs.Column.{Column, ColumnLaws}
 use Rattle.rules.specs.Rows.{Row, In, here, later, Every, nulls}
-use Rattle.rules.specs.Claims.{Claim, takes, settable, sum_claim, may_set}
+use Rattle.rules.specs.Claims.{takes, settable, may_set}
+use Rattle.statement.specs.Kinds.{Claim, sum_claim}
 use Rattle.stat.specs.Stats.{same_stat, all_stats}
 use Rattle.precision.specs.Claims.{mapped, exact_of}
 use Rattle.rules.specs.Truth.{ClaimHolds, Holds, AllHold}

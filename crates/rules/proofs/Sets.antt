@@ -5,14 +5,14 @@ use Rattle.std.proofs.lemmas.Bool.{true≢false, false≢true, cond_both, eqb-tr
 use Rattle.stat.specs.declared.Stat.{Stat}
 use Rattle.stat.specs.declared.Stat.TheVariants.{IsConstant, IsSorted, IsStrictSorted, Max, Min, Sum, NullCount, UncompressedSizeInBytes, NaNCount}
 use Rattle.precision.specs.declared.precision.Precision.TheVariants.{Exact, Inexact, Absent}
-use Rattle.rules.specs.declared.statement.Statement.{Statement}
+use Rattle.statement.specs.declared.Statement.{Statement}
 use Rattle.rules.specs.Column.{Column}
 use Rattle.rules.specs.Rows.{Row, In, here, later, Every}
-use Rattle.rules.specs.Claims.{Claim}
+use Rattle.statement.specs.Kinds.{Claim, stated}
 use Rattle.stat.specs.Stats.{stat_number, same_stat, all_stats}
 use Rattle.precision.specs.Claims.{is_absent}
 use Rattle.rules.specs.Truth.{ClaimHolds, AllHold}
-use Rattle.rules.specs.Sets.{Entries, Apart, stated, got, has, without, retained, replaced, put}
+use Rattle.rules.specs.Sets.{Entries, Apart, got, has, without, retained, replaced, put}
 use Rattle.rules.proofs.Lists.{every_in, in_every, every_both}
 use Rattle.order.proofs.Orders.{failed}
 use Rattle.rules.proofs.Claims.{absent_holds}

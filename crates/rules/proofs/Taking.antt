@@ -3,12 +3,13 @@ use Rattle.std.proofs.Common.{◌≡◌, Bool, true, false, List, [], ◌∷◌,
 use Rattle.std.proofs.lemmas.Bool.{true≢false, false≢true, cond_both, cond-false}
 use Rattle.stat.specs.declared.Stat.{Stat}
 use Rattle.stat.specs.declared.Stat.TheVariants.{IsConstant, IsSorted, IsStrictSorted, Max, Min, Sum as Total, NullCount, UncompressedSizeInBytes, NaNCount}
-use Rattle.rules.specs.declared.statement.StatValue.TheVariants.{Flag, Element, Sum, Count}
-use Rattle.rules.specs.declared.statement.Statement.{Statement}
+use Rattle.statement.specs.declared.StatValue.TheVariants.{Flag, Element, Sum, Count}
+use Rattle.statement.specs.declared.Statement.{Statement}
 use Rattle.order.specs.Order.{flag_order, count_order, below, above}
 use Rattle.rules.specs.Column.{Column, ColumnLaws}
 use Rattle.rules.specs.Rows.{Row}
-use Rattle.rules.specs.Claims.{Claim, some?, settable, flag_claim, element_claim, sum_claim, count_claim}
+use Rattle.rules.specs.Claims.{some?, settable}
+use Rattle.statement.specs.Kinds.{Claim, flag_claim, element_claim, sum_claim, count_claim}
 use Rattle.precision.specs.Claims.{is_absent}
 use Rattle.stat.specs.Stats.{same_stat}
 use Rattle.rules.specs.Truth.{ClaimHolds, Holds, AllHold}

@@ -5,11 +5,11 @@ use Rattle.stat.specs.declared.Stat.TheVariants.{IsConstant, IsSorted, IsStrictS
 use Rattle.precision.specs.declared.precision.Precision.{Precision}
 use Rattle.stat_bound.specs.declared.IntersectionResult.{IntersectionResult}
 use Rattle.stat_bound.specs.declared.IntersectionResult.TheVariants.{Value, Empty}
-use Rattle.rules.specs.declared.statement.StatValue.TheVariants.{Flag, Element, Sum, Count}
-use Rattle.rules.specs.declared.statement.Statement.{Statement}
+use Rattle.statement.specs.declared.StatValue.TheVariants.{Flag, Element, Sum, Count}
+use Rattle.statement.specs.declared.Statement.{Statement}
 use Rattle.order.specs.Order.{flag_order, count_order}
 use Rattle.rules.specs.Column.{Column}
-use Rattle.rules.specs.Claims.{Claim, flag_claim, element_claim, sum_claim, count_claim}
+use Rattle.statement.specs.Kinds.{Claim, flag_claim, element_claim, sum_claim, count_claim}
 use Rattle.precision.specs.Claims.{mapped}
 use Rattle.stat_bound.specs.Bounds.{lower_intersection, upper_intersection, precision_intersection}
 use Rattle.rules.specs.Sets.{Entries, got, has, put}

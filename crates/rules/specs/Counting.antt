@@ -4,11 +4,12 @@ use Rattle.std.specs.declared.cmp.Ordering.{Ordering}
 use Rattle.stat.specs.declared.Stat.{Stat}
 use Rattle.stat.specs.declared.Stat.TheVariants.{IsConstant, IsSorted, IsStrictSorted, Max, Min, Sum as Total, NullCount, UncompressedSizeInBytes, NaNCount}
 use Rattle.precision.specs.declared.precision.Precision.TheVariants.{Exact, Absent}
-use Rattle.rules.specs.declared.statement.StatValue.TheVariants.{Flag, Element, Sum, Count}
+use Rattle.statement.specs.declared.StatValue.TheVariants.{Flag, Element, Sum, Count}
 use Rattle.order.specs.Order.{below, above, same, lesser, greater}
 use Rattle.rules.specs.Column.{Column}
 use Rattle.rules.specs.Rows.{Row, elements, nulls, number_total}
-use Rattle.rules.specs.Claims.{Claim, some?}
+use Rattle.rules.specs.Claims.{some?}
+use Rattle.statement.specs.Kinds.{Claim}
 use Rattle.precision.specs.Claims.{mapped}
 use Rattle.rules.specs.Sets.{Entries, put}
 use Rattle.stat.specs.Stats.{all_stats}

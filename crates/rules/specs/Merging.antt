@@ -5,10 +5,10 @@ use Rattle.stat.specs.declared.Stat.{Stat}
 use Rattle.stat.specs.declared.Stat.TheVariants.{IsConstant, IsSorted, IsStrictSorted, Max, Min, Sum as Total, NullCount, UncompressedSizeInBytes, NaNCount}
 use Rattle.precision.specs.declared.precision.Precision.{Precision}
 use Rattle.precision.specs.declared.precision.Precision.TheVariants.{Exact, Inexact, Absent}
-use Rattle.rules.specs.declared.statement.StatValue.TheVariants.{Flag, Element, Sum, Count}
+use Rattle.statement.specs.declared.StatValue.TheVariants.{Flag, Element, Sum, Count}
 use Rattle.order.specs.Order.{same, below, above}
 use Rattle.rules.specs.Column.{Column}
-use Rattle.rules.specs.Claims.{Claim, flag_claim, element_claim, sum_claim, count_claim}
+use Rattle.statement.specs.Kinds.{Claim, flag_claim, element_claim, sum_claim, count_claim}
 use Rattle.precision.specs.Claims.{mapped, value_of, exact_of, zipped}
 use Rattle.stat_bound.specs.Bounds.{lower_union, upper_union}
 use Rattle.rules.specs.Sets.{Entries, got, put}

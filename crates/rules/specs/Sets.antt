@@ -2,9 +2,10 @@
 use Rattle.std.specs.Prelude.{◌≡◌, Bool, true, false, cond, List, [], ◌∷◌, ◌++◌}
 use Rattle.stat.specs.declared.Stat.{Stat}
 use Rattle.precision.specs.declared.precision.Precision.TheVariants.{Absent}
-use Rattle.rules.specs.declared.statement.Statement.{Statement}
+use Rattle.statement.specs.declared.Statement.{Statement}
 use Rattle.rules.specs.Rows.{Every}
-use Rattle.rules.specs.Claims.{Claim, settable}
+use Rattle.rules.specs.Claims.{settable}
+use Rattle.statement.specs.Kinds.{Claim, stated}
 use Rattle.stat.specs.Stats.{same_stat}
 use Rattle.precision.specs.Claims.{is_absent}
 
@@ -17,9 +18,6 @@ chosen test [] = []
 chosen test (s ∷ ss) = cond (test s) (s ∷ chosen test ss) (chosen test ss)
 
 module _ {V S : Type 0} where
-  abbrev pub stated : Stat → Claim V S → Statement V S
-  stated s c = record { stat = s; claim = c }
-
   -- the statistics of the entries, in their order
   abbrev pub stats_of : Entries V S → List Stat
   stats_of [] = []

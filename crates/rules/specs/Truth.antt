@@ -3,10 +3,10 @@ use Rattle.std.specs.Prelude.{◌≡◌, ◌*◌, ◌≤◌, Bool, true, false, 
 use Rattle.stat.specs.declared.Stat.{Stat}
 use Rattle.stat.specs.declared.Stat.TheVariants.{IsConstant, IsSorted, IsStrictSorted, Max, Min, Sum, NullCount, UncompressedSizeInBytes, NaNCount}
 use Rattle.stat_bound.specs.Bounds.{Says, Always}
-use Rattle.rules.specs.declared.statement.Statement.{Statement}
+use Rattle.statement.specs.declared.Statement.{Statement}
 use Rattle.rules.specs.Column.{Column}
 use Rattle.rules.specs.Rows.{Row, In, Every, elements, nulls, NoTwoDiffer, NeverFall, AlwaysRise, NoneAbove, NoneBelow, number_total}
-use Rattle.rules.specs.Claims.{Claim, flag_claim, element_claim, sum_claim, count_claim}
+use Rattle.statement.specs.Kinds.{Claim, flag_claim, element_claim, sum_claim, count_claim}
 
 -- the flag tells whether P
 abbrev pub Tells : Type 0 → Bool → Type 0

@@ -1,5 +1,5 @@
 // An ordered type with a width and, where it has them, sums.
-ghost use Rattle.std.specs.Prelude.{◌≡◌, ◌≤◌, true};
+ghost use Rattle.std.specs.Prelude.{◌≡◌, ◌≤◌, ℕ, Bool, true};
 ghost use Rattle.rules.specs.Column.{Sums as Adding, SumLaws};
 
 use order::ordered::Ordered;
@@ -13,16 +13,13 @@ pub trait Element: Ordered {
     // Whether elements have sums.
     const HAS_SUMS: bool;
 
+    // The two as numbers and truth of the rules.
+    ghost WIDTH: { ℕ };
+
+    ghost HAS_SUMS: { Bool };
+
     // What elements and sums stand for, and how they add.
     ghost sums: { Adding Self Self.Sum };
-
-    // The constant `WIDTH`.
-    fn bytes() -> u64
-        ensures { result ≡ sums.width };
-
-    // The constant `HAS_SUMS`.
-    fn sums() -> bool
-        ensures { result ≡ sums.has_sums };
 
     // The sum of nothing.
     fn zero() -> Self::Sum
@@ -35,6 +32,10 @@ pub trait Element: Ordered {
     // The sum of two, where there is one.
     fn plus(a: Self::Sum, b: Self::Sum) -> Option<Self::Sum>
         ensures { result ≡ sums.plus a b };
+
+    ghost wide: { WIDTH ≡ sums.width };
+
+    ghost adding: { HAS_SUMS ≡ sums.has_sums };
 
     ghost narrow: { (1 ≤ sums.width) × (sums.width ≤ 16) };
 

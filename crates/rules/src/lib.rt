@@ -1,5 +1,4 @@
 #![tactic(auto)]
-// What the rules speak of: elements and their sums, values of statistics, statements, and who tells them.
+// What the rules speak of: elements and their sums, and who tells statements.
 pub mod element;
 pub mod provider;
-pub mod statement;

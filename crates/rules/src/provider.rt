@@ -1,11 +1,11 @@
 // Whoever tells statements about rows: how many, and one at each place.
 ghost use Rattle.std.specs.Prelude.{◌≡◌, List, length};
 ghost use Rattle.std.specs.List.{slice_get};
-ghost use Rattle.rules.specs.declared.statement.Statement.{Statement as Said};
+ghost use Rattle.statement.specs.declared.Statement.{Statement as Said};
 ghost use Rattle.rules.specs.Sets.{Proper};
 
 use crate::element::Element;
-use crate::statement::Statement;
+use statement::Statement;
 
 pub trait StatsProvider<E: Element> {
     // The statements, by places from 0: its meaning.

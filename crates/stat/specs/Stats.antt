@@ -1,6 +1,7 @@
 -- The nine statistics: their numbers and names.
-use Rattle.std.specs.Prelude.{ℕ, Bool, true, false, List, [], ◌∷◌, codes, ◌==◌}
+use Rattle.std.specs.Prelude.{◌≡◌, ◌≢◌, ℕ, Bool, true, false, List, [], ◌∷◌, codes, ◌==◌, Result, MatchResult}
 use Rattle.stat.specs.declared.Stat.{Stat}
+use Rattle.stat.specs.declared.ParseStatError.{ParseStatError}
 use Rattle.stat.specs.declared.Stat.TheVariants.{IsConstant, IsSorted, IsStrictSorted, Max, Min, Sum, NullCount, UncompressedSizeInBytes, NaNCount}
 
 abbrev pub stat_number : Stat → ℕ
@@ -42,3 +43,7 @@ stat_name NaNCount = codes "nan_count"
 
 abbrev pub all_stats : List Stat
 all_stats = IsConstant ∷ IsSorted ∷ IsStrictSorted ∷ Max ∷ Min ∷ Sum ∷ NullCount ∷ UncompressedSizeInBytes ∷ NaNCount ∷ []
+
+-- a text is read as the statistic whose name it is, and where it is no name as none
+abbrev pub ReadsStat : List ℕ → Result Stat ParseStatError → Type 0
+ReadsStat name r = MatchResult r (λ s. name ≡ stat_name s) (λ _. (s : Stat) → name ≢ stat_name s)

@@ -1,9 +1,11 @@
 #![tactic(auto)]
 // The nine statistics, by number and name.
-ghost use Rattle.std.specs.Prelude.{◌≡◌, Some};
-ghost use Rattle.stat.specs.Stats.{stat_number, same_stat, commutes, stat_name, all_stats};
+ghost use Rattle.std.specs.Prelude.{◌≡◌, Some, codes};
+ghost use Rattle.stat.specs.Stats.{stat_number, same_stat, commutes, stat_name, all_stats, ReadsStat};
 
+use std::error::Error;
 use std::fmt;
+use std::str::FromStr;
 
 #[derive(Clone, Copy, PartialEq, Eq, Debug)]
 pub enum Stat {
@@ -38,7 +40,7 @@ impl Stat {
     pub fn same(self, other: Stat) -> bool
         ensures { result ≡ same_stat self other }
     {
-        self.number() == other.number()
+        self == other
     }
 
     // Whether a merge of it needs no order of the parts.
@@ -89,7 +91,42 @@ impl fmt::Display for Stat {
     ghost output = { λ s. Some (stat_name s) };
 
     fn fmt<W: fmt::Write>(&self, f: &mut fmt::Formatter<W>) -> fmt::Result {
-        let name = self.name();
-        write!(f, "{name}")
+        f.write_str(self.name())
+    }
+}
+
+// A text that names no statistic.
+#[derive(Clone, Copy, PartialEq, Eq, Debug)]
+pub struct ParseStatError;
+
+impl fmt::Display for ParseStatError {
+    ghost output = { λ _. Some (codes "there is no statistic of that name") };
+
+    fn fmt<W: fmt::Write>(&self, f: &mut fmt::Formatter<W>) -> fmt::Result {
+        f.write_str("there is no statistic of that name")
+    }
+}
+
+impl Error for ParseStatError {}
+
+// The statistic of a name.
+impl FromStr for Stat {
+    type Err = ParseStatError;
+
+    ghost from_str_gives = { ReadsStat };
+
+    fn from_str(name: &str) -> Result<Stat, ParseStatError> {
+        match name {
+            "is_constant" => Ok(Stat::IsConstant),
+            "is_sorted" => Ok(Stat::IsSorted),
+            "is_strict_sorted" => Ok(Stat::IsStrictSorted),
+            "max" => Ok(Stat::Max),
+            "min" => Ok(Stat::Min),
+            "sum" => Ok(Stat::Sum),
+            "null_count" => Ok(Stat::NullCount),
+            "uncompressed_size_in_bytes" => Ok(Stat::UncompressedSizeInBytes),
+            "nan_count" => Ok(Stat::NaNCount),
+            _ => Err(ParseStatError),
+        }
     }
 }

@@ -3,7 +3,7 @@ use Rattle.std.proofs.Common.{◌≡◌, ℕ, List, ◌∷◌, ◌++◌, length,
 use lib.Seq.{get_or-append_seam}
 use Rattle.std.proofs.lemmas.Str.Pattern.{IsSplitOnceResult, split_after, split_parts}
 use Rattle.stat.specs.declared.Stat.{Stat}
-use Rattle.rules.specs.declared.statement.Statement.{Statement}
+use Rattle.statement.specs.declared.Statement.{Statement}
 use Rattle.text.specs.Reading.{Named, NoSign, ReadsNamed, ReadsStatement}
 
 -- a text with a `=` between two parts

@@ -10,10 +10,9 @@ use Rattle.precision.specs.Texts.{ReadsClaim}
 use Rattle.stat.specs.declared.Stat.{Stat}
 use Rattle.stat.specs.declared.Stat.TheVariants.{IsConstant, IsSorted, IsStrictSorted, Max, Min, Sum as Total, NullCount, UncompressedSizeInBytes, NaNCount}
 use Rattle.stat.specs.Stats.{stat_name}
-use Rattle.rules.specs.declared.statement.StatValue.TheVariants.{Flag, Element, Sum, Count}
-use Rattle.rules.specs.declared.statement.Statement.{Statement}
-use Rattle.rules.specs.Claims.{Claim}
-use Rattle.rules.specs.Sets.{stated}
+use Rattle.statement.specs.declared.StatValue.TheVariants.{Flag, Element, Sum, Count}
+use Rattle.statement.specs.declared.Statement.{Statement}
+use Rattle.statement.specs.Kinds.{Claim, stated}
 
 -- the statistic of a name, or none of that name
 abbrev pub Named : List ℕ → Option Stat → Type 0

@@ -3,10 +3,10 @@ use Rattle.std.specs.Prelude.{ℕ, cond, List, Some, codes, decimal, Option}
 use Rattle.std.specs.Fmt.{option_append}
 use Rattle.precision.specs.declared.precision.Precision.TheVariants.{Exact, Inexact, Absent}
 use Rattle.stat.specs.Stats.{stat_name}
-use Rattle.rules.specs.declared.statement.StatValue.{StatValue}
-use Rattle.rules.specs.declared.statement.StatValue.TheVariants.{Flag, Element, Sum, Count}
-use Rattle.rules.specs.declared.statement.Statement.{Statement}
-use Rattle.rules.specs.Claims.{Claim}
+use Rattle.statement.specs.declared.StatValue.{StatValue}
+use Rattle.statement.specs.declared.StatValue.TheVariants.{Flag, Element, Sum, Count}
+use Rattle.statement.specs.declared.Statement.{Statement}
+use Rattle.statement.specs.Kinds.{Claim}
 
 module _ {V S : Type 0} (element : V → Option (List ℕ)) (sum : S → Option (List ℕ)) where
   -- a flag as `true` or `false`, a count in decimal, elements and sums as they are written by themselves

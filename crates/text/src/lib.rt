@@ -5,7 +5,7 @@ ghost use Rattle.text.specs.Reading.{Named, ReadsAs, ReadsKind, ReadsFlag, Reads
 
 use claims::{of_count, of_element, of_flag, of_sum};
 use precision::precision::Precision;
-use rules::statement::{StatValue, Statement};
+use statement::{StatValue, Statement};
 use stat::Stat;
 use std::fmt;
 use std::str::FromStr;

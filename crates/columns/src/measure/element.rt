@@ -1,4 +1,5 @@
 // Measures as elements: a measure is its own sum, and two add where the total fits 64 signed bits.
+ghost use Rattle.std.specs.Prelude.{true};
 ghost use Rattle.columns.specs.Measures.{measure_sums};
 ghost use Rattle.columns.specs.MeasuresLemmas.{measures_summed};
 ghost use Rattle.std.proofs.Common.{rules};
@@ -13,19 +14,19 @@ impl Element for Measure {
 
     const HAS_SUMS: bool = true;
 
+    ghost WIDTH = { 8 };
+
+    ghost HAS_SUMS = { true };
+
     ghost sums = { measure_sums };
+
+    ghost wide = { Prim.search rules };
+
+    ghost adding = { Prim.search rules };
 
     ghost narrow = { Prim.search rules };
 
     ghost summed = { λ _. measures_summed };
-
-    fn bytes() -> u64 {
-        Self::WIDTH
-    }
-
-    fn sums() -> bool {
-        Self::HAS_SUMS
-    }
 
     fn zero() -> Measure {
         Measure::new(0)
@@ -36,9 +37,6 @@ impl Element for Measure {
     }
 
     fn plus(a: Measure, b: Measure) -> Option<Measure> {
-        match a.value.checked_add(b.value) {
-            Some(value) => Some(Measure::new(value)),
-            None => None,
-        }
+        Some(Measure::new(a.value.checked_add(b.value)?))
     }
 }

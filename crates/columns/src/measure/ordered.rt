@@ -13,12 +13,6 @@ impl Ordered for Measure {
     ghost ordered = { measures_ordered };
 
     fn compare(self, other: Measure) -> Ordering {
-        if self.value < other.value {
-            Ordering::Less
-        } else if other.value < self.value {
-            Ordering::Greater
-        } else {
-            Ordering::Equal
-        }
+        self.cmp(&other)
     }
 }

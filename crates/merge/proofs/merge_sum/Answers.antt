@@ -1,8 +1,8 @@
 use Rattle.std.proofs.Common.{true, ap, ◌∙◌, ap₂}
 use Rattle.precision.specs.Claims.{mapped}
 use Rattle.stat.specs.declared.Stat.TheVariants.{Sum as Total}
-use Rattle.rules.specs.declared.statement.StatValue.TheVariants.{Sum}
-use Rattle.rules.specs.Claims.{sum_claim}
+use Rattle.statement.specs.declared.StatValue.TheVariants.{Sum}
+use Rattle.statement.specs.Kinds.{sum_claim}
 use Rattle.rules.specs.Column.{column}
 use Rattle.rules.specs.Merging.{rule, sum_rule}
 use Rattle.rules.proofs.Merges.{may_taken, rule_taken}

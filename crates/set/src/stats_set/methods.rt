@@ -23,7 +23,7 @@ use precision::precision::Precision;
 use refusal::Refusal;
 use rules::element::Element;
 use rules::provider::StatsProvider;
-use rules::statement::{StatValue, Statement};
+use statement::{StatValue, Statement};
 use stat::Stat;
 
 impl<E: Element> StatsSet<E, E::Sum> {

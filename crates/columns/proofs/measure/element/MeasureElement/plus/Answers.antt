@@ -3,8 +3,8 @@ use Rattle.std.proofs.lemmas.Int.{ints}
 use Rattle.columns.specs.MeasuresLemmas.{is_measured}
 use Rattle.columns.proofs.measure.element.MeasureElement.plus.Goals as goal
 
-pub returns-in-Some : goal.returns-in-Some
-returns-in-Some c =
-    let h = c.in-Some.ensures in
+pub returns : goal.returns
+returns c =
+    let h = c.in_ok-checked_add.ensures in
     let e : c.new.result.value ≡ c.args.a.value +ℤ c.args.b.value = omega (arith, ints) in
     sym (is_measured c.new.result (c.args.a.value +ℤ c.args.b.value) e)

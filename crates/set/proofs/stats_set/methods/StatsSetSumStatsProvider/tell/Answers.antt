@@ -1,6 +1,6 @@
 use Rattle.std.proofs.Common.{Some, refl, ap, ◌∙◌}
 use Rattle.std.specs.List.{slice_get}
-use Rattle.rules.specs.Sets.{stated}
+use Rattle.statement.specs.Kinds.{stated}
 use Rattle.claims.proofs.Views.{nth_some, nth_none}
 use Rattle.set.proofs.stats_set.methods.StatsSetSumStatsProvider.tell.Goals as goal
 

@@ -1,9 +1,13 @@
-// The value of a statistic, and a statistic with its claim.
+#![tactic(auto)]
+// What is said of a statistic: its value, by kind, and the claim of it.
+pub mod kind;
+pub mod text;
+
 use precision::precision::Precision;
 use stat::Stat;
 
 // The value of a statistic, by its kind.
-#[derive(Clone, Copy)]
+#[derive(Clone, Copy, PartialEq, Eq, Debug)]
 pub enum StatValue<E, S> {
     Flag(bool),
     Element(E),
@@ -12,7 +16,7 @@ pub enum StatValue<E, S> {
 }
 
 // A statistic and what is claimed of it.
-#[derive(Clone, Copy)]
+#[derive(Clone, Copy, PartialEq, Eq, Debug)]
 pub struct Statement<E, S> {
     pub stat: Stat,
     pub claim: Precision<StatValue<E, S>>,
