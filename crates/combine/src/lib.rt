@@ -9,19 +9,22 @@ ghost use Rattle.rules.specs.Claims.{settable, may_set};
 ghost use Rattle.rules.specs.Combining.{intersected};
 ghost use Rattle.set.specs.Viewed.{entries};
 ghost use Rattle.combine.specs.Combined.{Combines, mapped_in};
+ghost use Rattle.stat_type.specs.Bounded.{narrowed};
+ghost use Rattle.statement.specs.Kinds.{parted};
 
-use claims::{count_in, element_in, flag_in, of_count, of_element, of_flag, of_sum, sum_in};
+use order::ordered::Ordered;
 use precision::precision::Precision;
 use refusal::Refusal;
 use rules::element::Element;
 use rules::provider::StatsProvider;
-use statement::{StatValue, Statement};
 use set::stats_set::StatsSet;
 use stat::Stat;
 use stat_type::{
-    IsConstant, IsSorted, IsStrictSorted, Max, Min, NaNCount, NullCount, Sum,
+    IsConstant, IsSorted, IsStrictSorted, Max, Min, NaNCount, NullCount, StatType, Sum,
     UncompressedSizeInBytes, combine_bound,
 };
+use statement::kind::{Counts, Elements, Flags, Kind, Sums};
+use statement::{StatValue, Statement};
 
 pub trait CombineSets<E: Element> {
     // Holds of the statements told, of this set before and after, and of what is declined.
@@ -64,58 +67,30 @@ fn joined<E: Element>(
     if mine.is_absent() {
         return Some(told.claim);
     }
-    let claim = told.claim;
     match told.stat {
-        Stat::IsConstant => flags(combine_bound::<bool, IsConstant>(flag_in(mine), flag_in(claim))),
-        Stat::IsSorted => flags(combine_bound::<bool, IsSorted>(flag_in(mine), flag_in(claim))),
-        Stat::IsStrictSorted => flags(combine_bound::<bool, IsStrictSorted>(
-            flag_in(mine),
-            flag_in(claim),
-        )),
-        Stat::Max => elements(combine_bound::<E, Max>(element_in(mine), element_in(claim))),
-        Stat::Min => elements(combine_bound::<E, Min>(element_in(mine), element_in(claim))),
-        Stat::Sum => sums(combine_bound::<E::Sum, Sum>(sum_in(mine), sum_in(claim))),
-        Stat::NullCount => counts(combine_bound::<u64, NullCount>(count_in(mine), count_in(claim))),
-        Stat::UncompressedSizeInBytes => counts(combine_bound::<u64, UncompressedSizeInBytes>(
-            count_in(mine),
-            count_in(claim),
-        )),
-        Stat::NaNCount => counts(combine_bound::<u64, NaNCount>(count_in(mine), count_in(claim))),
+        Stat::IsConstant => both::<E, Flags, IsConstant>(mine, told.claim),
+        Stat::IsSorted => both::<E, Flags, IsSorted>(mine, told.claim),
+        Stat::IsStrictSorted => both::<E, Flags, IsStrictSorted>(mine, told.claim),
+        Stat::Max => both::<E, Elements, Max>(mine, told.claim),
+        Stat::Min => both::<E, Elements, Min>(mine, told.claim),
+        Stat::Sum => both::<E, Sums, Sum>(mine, told.claim),
+        Stat::NullCount => both::<E, Counts, NullCount>(mine, told.claim),
+        Stat::UncompressedSizeInBytes => {
+            both::<E, Counts, UncompressedSizeInBytes>(mine, told.claim)
+        }
+        Stat::NaNCount => both::<E, Counts, NaNCount>(mine, told.claim),
     }
 }
 
-fn flags<E: Copy, S: Copy>(claim: Option<Precision<bool>>) -> Option<Precision<StatValue<E, S>>>
-    ensures { result ≡ mapped_in StatValue.Flag claim }
+// Two claims of a statistic S in one, by the kind K of its values; none where they contradict each other.
+fn both<E: Element, K: Kind<E, E::Sum>, S: StatType<K::Value>>(
+    mine: Precision<StatValue<E, E::Sum>>,
+    told: Precision<StatValue<E, E::Sum>>,
+) -> Option<Precision<StatValue<E, E::Sum>>>
+where
+    K::Value: Ordered,
+    ensures { result ≡ mapped_in K.wrapped (narrowed S.Bound.StatBound.met (parted K.part mine) (parted K.part told)) }
 {
-    match claim {
-        Some(claim) => Some(of_flag(claim)),
-        None => None,
-    }
-}
-
-fn elements<E: Copy, S: Copy>(claim: Option<Precision<E>>) -> Option<Precision<StatValue<E, S>>>
-    ensures { result ≡ mapped_in StatValue.Element claim }
-{
-    match claim {
-        Some(claim) => Some(of_element(claim)),
-        None => None,
-    }
-}
-
-fn sums<E: Copy, S: Copy>(claim: Option<Precision<S>>) -> Option<Precision<StatValue<E, S>>>
-    ensures { result ≡ mapped_in StatValue.Sum claim }
-{
-    match claim {
-        Some(claim) => Some(of_sum(claim)),
-        None => None,
-    }
-}
-
-fn counts<E: Copy, S: Copy>(claim: Option<Precision<u64>>) -> Option<Precision<StatValue<E, S>>>
-    ensures { result ≡ mapped_in StatValue.Count claim }
-{
-    match claim {
-        Some(claim) => Some(of_count(claim)),
-        None => None,
-    }
+    let claim = combine_bound::<K::Value, S>(K::claim_in(mine), K::claim_in(told))?;
+    Some(K::claim(claim))
 }

@@ -228,7 +228,7 @@ fn total<E: Element>(sum: Option<E::Sum>) -> Precision<E::Sum>
     ensures { result ≡ (if E.Element.sums.has_sums then exactly sum else Nothing) }
 {
     match sum {
-        Some(sum) if E::sums() => Precision::Exact(sum),
+        Some(sum) if E::HAS_SUMS => Precision::Exact(sum),
         _ => Precision::Absent,
     }
 }
@@ -237,7 +237,7 @@ fn total<E: Element>(sum: Option<E::Sum>) -> Precision<E::Sum>
 fn size<E: Element>(rows: u64) -> Precision<u64>
     ensures { result ≡ (if nat_lt (rows * E.Element.sums.width) (2 ^ 64) then Exactly (rows * E.Element.sums.width) else Nothing) }
 {
-    match rows.checked_mul(E::bytes()) {
+    match rows.checked_mul(E::WIDTH) {
         Some(bytes) => Precision::Exact(bytes),
         None => Precision::Absent,
     }

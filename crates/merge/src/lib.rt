@@ -1,23 +1,24 @@
 #![tactic(auto)]
 // Merging the statistics of two disjoint parts into those of the whole.
-ghost use Rattle.std.specs.Prelude.{◌≡◌, ℕ, Bool, true, false};
+ghost use Rattle.std.specs.Prelude.{◌≡◌, Bool, true, false};
+ghost use Rattle.statement.specs.declared.StatValue.TheVariants.{Flag};
+ghost use Rattle.statement.specs.Kinds.{flag_claim, element_claim};
+ghost use Rattle.stat.specs.declared.Stat.TheVariants.{Max, Min};
 ghost use Rattle.precision.specs.Claims.{mapped};
-ghost use Rattle.stat.specs.declared.Stat.TheVariants.{IsConstant, IsSorted, IsStrictSorted, Max, Min, Sum as Total, NullCount, UncompressedSizeInBytes, NaNCount};
-ghost use Rattle.statement.specs.declared.StatValue.TheVariants.{Flag, Count};
 ghost use Rattle.rules.specs.Column.{column};
-ghost use Rattle.rules.specs.Claims.{takes};
-ghost use Rattle.statement.specs.Kinds.{flag_claim, element_claim, count_claim};
-ghost use Rattle.rules.specs.Sets.{got, put};
-ghost use Rattle.rules.specs.Merging.{rule, sorted_rule, count_rule};
+ghost use Rattle.rules.specs.Sets.{got};
+ghost use Rattle.rules.specs.Merging.{rule, sorted_rule};
 ghost use Rattle.set.specs.Viewed.{entries};
 ghost use Rattle.leaves.specs.Comparing.{in_step};
 ghost use Rattle.merge.specs.Merged.{Merges};
 
-use claims::{count_in, element_in, flag_in, of_count, of_element, of_flag, of_sum, sum_in};
 use leaves::Comparison;
+use precision::precision::Precision;
 use rules::element::Element;
 use set::stats_set::StatsSet;
 use stat::Stat;
+use statement::StatValue;
+use statement::kind::{Counts, Elements, Flags, Kind, Sums};
 
 pub trait MergeSets {
     // Holds of whether the order of the parts is kept, of this set before, of the other, and of this set after.
@@ -32,140 +33,82 @@ pub trait MergeSets {
         ensures { merges false self.old other.now self.new };
 }
 
-// Statistic after statistic, by rising number, each on the entries as changed so far.
 impl<E: Element> MergeSets for StatsSet<E, E::Sum> {
     ghost merges = { λ in_order a b c. Merges (column E.Ordered.order E.Sum.Ordered.order E.Element.sums) in_order (entries E.Element.sums.has_sums a) (entries E.Element.sums.has_sums b) (entries E.Element.sums.has_sums c) };
 
     fn merge_ordered(&mut self, other: &Self) {
-        merge_is_constant(self, other);
-        merge_is_sorted(self, other);
-        merge_is_strict_sorted(self, other);
-        merge_max(self, other);
-        merge_min(self, other);
-        merge_sum(self, other);
-        merge_null_count(self, other);
-        merge_uncompressed_size_in_bytes(self, other);
-        merge_nan_count(self, other);
+        merge(self, other, true);
     }
 
     fn merge_unordered(&mut self, other: &Self) {
-        merge_is_constant(self, other);
-        self.clear(Stat::IsSorted);
-        self.clear(Stat::IsStrictSorted);
-        merge_max(self, other);
-        merge_min(self, other);
-        merge_sum(self, other);
-        merge_null_count(self, other);
-        merge_uncompressed_size_in_bytes(self, other);
-        merge_nan_count(self, other);
+        merge(self, other, false);
     }
 }
 
-fn merge_min<E: Element>(values: &mut StatsSet<E, E::Sum>, other: &StatsSet<E, E::Sum>)
-    ensures { entries E.Element.sums.has_sums values.new ≡ put (entries E.Element.sums.has_sums values.old) Min (rule (column E.Ordered.order E.Sum.Ordered.order E.Element.sums) true (entries E.Element.sums.has_sums values.old) (entries E.Element.sums.has_sums other.now) Min) }
+// Statistic after statistic, by rising number, each on the entries as changed so far.
+fn merge<E: Element>(values: &mut StatsSet<E, E::Sum>, other: &StatsSet<E, E::Sum>, in_order: bool)
+    ensures { Merges (column E.Ordered.order E.Sum.Ordered.order E.Element.sums) in_order (entries E.Element.sums.has_sums values.old) (entries E.Element.sums.has_sums other.now) (entries E.Element.sums.has_sums values.new) }
 {
-    let claim = leaves::merge_min(
-        element_in(values.get(Stat::Min)),
-        element_in(other.get(Stat::Min)),
-    );
-    let _ = values.set(Stat::Min, of_element(claim));
+    for stat in Stat::all() {
+        let claim = merged(values, other, in_order, stat);
+        let _ = values.set(stat, claim);
+    }
 }
 
-fn merge_max<E: Element>(values: &mut StatsSet<E, E::Sum>, other: &StatsSet<E, E::Sum>)
-    ensures { entries E.Element.sums.has_sums values.new ≡ put (entries E.Element.sums.has_sums values.old) Max (rule (column E.Ordered.order E.Sum.Ordered.order E.Element.sums) true (entries E.Element.sums.has_sums values.old) (entries E.Element.sums.has_sums other.now) Max) }
-{
-    let claim = leaves::merge_max(
-        element_in(values.get(Stat::Max)),
-        element_in(other.get(Stat::Max)),
-    );
-    let _ = values.set(Stat::Max, of_element(claim));
-}
-
-fn merge_sum<E: Element>(values: &mut StatsSet<E, E::Sum>, other: &StatsSet<E, E::Sum>)
-    ensures { entries E.Element.sums.has_sums values.new ≡ put (entries E.Element.sums.has_sums values.old) Total (rule (column E.Ordered.order E.Sum.Ordered.order E.Element.sums) true (entries E.Element.sums.has_sums values.old) (entries E.Element.sums.has_sums other.now) Total) }
-{
-    let claim = leaves::merge_sum::<E>(sum_in(values.get(Stat::Sum)), sum_in(other.get(Stat::Sum)));
-    let _ = values.set(Stat::Sum, of_sum(claim));
-}
-
-fn merge_is_constant<E: Element>(values: &mut StatsSet<E, E::Sum>, other: &StatsSet<E, E::Sum>)
-    ensures { entries E.Element.sums.has_sums values.new ≡ put (entries E.Element.sums.has_sums values.old) IsConstant (rule (column E.Ordered.order E.Sum.Ordered.order E.Element.sums) true (entries E.Element.sums.has_sums values.old) (entries E.Element.sums.has_sums other.now) IsConstant) }
-{
-    let mine = flag_in(values.get(Stat::IsConstant));
-    let others = flag_in(other.get(Stat::IsConstant));
-    let claim = leaves::merge_constant(
-        mine,
-        others,
-        element_in(values.get(Stat::Min)),
-        element_in(other.get(Stat::Min)),
-    );
-    let _ = values.set(Stat::IsConstant, of_flag(claim));
-}
-
-fn merge_is_sorted<E: Element>(values: &mut StatsSet<E, E::Sum>, other: &StatsSet<E, E::Sum>)
-    ensures { entries E.Element.sums.has_sums values.new ≡ put (entries E.Element.sums.has_sums values.old) IsSorted (rule (column E.Ordered.order E.Sum.Ordered.order E.Element.sums) true (entries E.Element.sums.has_sums values.old) (entries E.Element.sums.has_sums other.now) IsSorted) }
-{
-    merge_sortedness_stat(values, other, Stat::IsSorted, Comparison::Le);
-}
-
-fn merge_is_strict_sorted<E: Element>(values: &mut StatsSet<E, E::Sum>, other: &StatsSet<E, E::Sum>)
-    ensures { entries E.Element.sums.has_sums values.new ≡ put (entries E.Element.sums.has_sums values.old) IsStrictSorted (rule (column E.Ordered.order E.Sum.Ordered.order E.Element.sums) true (entries E.Element.sums.has_sums values.old) (entries E.Element.sums.has_sums other.now) IsStrictSorted) }
-{
-    merge_sortedness_stat(values, other, Stat::IsStrictSorted, Comparison::Lt);
-}
-
-// One of the two sortedness statistics, with its comparison.
-fn merge_sortedness_stat<E: Element>(
-    values: &mut StatsSet<E, E::Sum>,
+// What a merge gives for a statistic, from the claims of both sides; an absent claim clears.
+fn merged<E: Element>(
+    mine: &StatsSet<E, E::Sum>,
     other: &StatsSet<E, E::Sum>,
+    in_order: bool,
     stat: Stat,
+) -> Precision<StatValue<E, E::Sum>>
+    ensures { result ≡ rule (column E.Ordered.order E.Sum.Ordered.order E.Element.sums) in_order (entries E.Element.sums.has_sums mine.now) (entries E.Element.sums.has_sums other.now) stat }
+{
+    match stat {
+        Stat::IsConstant => Flags::claim(leaves::merge_constant(
+            Flags::claim_in(mine.get(stat)),
+            Flags::claim_in(other.get(stat)),
+            Elements::claim_in(mine.get(Stat::Min)),
+            Elements::claim_in(other.get(Stat::Min)),
+        )),
+        Stat::IsSorted if in_order => sortedness(Comparison::Le, mine, other, stat),
+        Stat::IsStrictSorted if in_order => sortedness(Comparison::Lt, mine, other, stat),
+        Stat::IsSorted | Stat::IsStrictSorted => Precision::Absent,
+        Stat::Max => Elements::claim(leaves::merge_max(
+            Elements::claim_in(mine.get(stat)),
+            Elements::claim_in(other.get(stat)),
+        )),
+        Stat::Min => Elements::claim(leaves::merge_min(
+            Elements::claim_in(mine.get(stat)),
+            Elements::claim_in(other.get(stat)),
+        )),
+        Stat::Sum => Sums::claim(leaves::merge_sum::<E>(
+            Sums::claim_in(mine.get(stat)),
+            Sums::claim_in(other.get(stat)),
+        )),
+        Stat::NullCount | Stat::UncompressedSizeInBytes | Stat::NaNCount => {
+            Counts::claim(leaves::merge_count(
+                Counts::claim_in(mine.get(stat)),
+                Counts::claim_in(other.get(stat)),
+            ))
+        }
+    }
+}
+
+// One of the two sortedness statistics, by how the greatest of the first part compares with the least of the second.
+fn sortedness<E: Element>(
     comparison: Comparison,
-)
-    requires { (b : Bool) → takes {V = E} {S = E.Sum} E.Element.sums.has_sums stat (Flag b) ≡ true }
-    ensures { entries E.Element.sums.has_sums values.new ≡ put (entries E.Element.sums.has_sums values.old) stat (mapped Flag (sorted_rule (in_step comparison E.Ordered.order) (flag_claim (got (entries E.Element.sums.has_sums values.old) stat)) (flag_claim (got (entries E.Element.sums.has_sums other.now) stat)) (element_claim (got (entries E.Element.sums.has_sums values.old) Max)) (element_claim (got (entries E.Element.sums.has_sums other.now) Min)))) }
-{
-    let mine = flag_in(values.get(stat));
-    let others = flag_in(other.get(stat));
-    let claim = leaves::merge_sortedness(
-        comparison,
-        mine,
-        others,
-        element_in(values.get(Stat::Max)),
-        element_in(other.get(Stat::Min)),
-    );
-    let _ = values.set(stat, of_flag(claim));
-}
-
-fn merge_null_count<E: Element>(values: &mut StatsSet<E, E::Sum>, other: &StatsSet<E, E::Sum>)
-    ensures { entries E.Element.sums.has_sums values.new ≡ put (entries E.Element.sums.has_sums values.old) NullCount (rule (column E.Ordered.order E.Sum.Ordered.order E.Element.sums) true (entries E.Element.sums.has_sums values.old) (entries E.Element.sums.has_sums other.now) NullCount) }
-{
-    merge_sum_stat(values, Stat::NullCount, other);
-}
-
-fn merge_nan_count<E: Element>(values: &mut StatsSet<E, E::Sum>, other: &StatsSet<E, E::Sum>)
-    ensures { entries E.Element.sums.has_sums values.new ≡ put (entries E.Element.sums.has_sums values.old) NaNCount (rule (column E.Ordered.order E.Sum.Ordered.order E.Element.sums) true (entries E.Element.sums.has_sums values.old) (entries E.Element.sums.has_sums other.now) NaNCount) }
-{
-    merge_sum_stat(values, Stat::NaNCount, other);
-}
-
-fn merge_uncompressed_size_in_bytes<E: Element>(
-    values: &mut StatsSet<E, E::Sum>,
+    mine: &StatsSet<E, E::Sum>,
     other: &StatsSet<E, E::Sum>,
-)
-    ensures { entries E.Element.sums.has_sums values.new ≡ put (entries E.Element.sums.has_sums values.old) UncompressedSizeInBytes (rule (column E.Ordered.order E.Sum.Ordered.order E.Element.sums) true (entries E.Element.sums.has_sums values.old) (entries E.Element.sums.has_sums other.now) UncompressedSizeInBytes) }
-{
-    merge_sum_stat(values, Stat::UncompressedSizeInBytes, other);
-}
-
-// One of the three counts.
-fn merge_sum_stat<E: Element>(
-    values: &mut StatsSet<E, E::Sum>,
     stat: Stat,
-    other: &StatsSet<E, E::Sum>,
-)
-    requires { (n : ℕ) → takes {V = E} {S = E.Sum} E.Element.sums.has_sums stat (Count n) ≡ true }
-    ensures { entries E.Element.sums.has_sums values.new ≡ put (entries E.Element.sums.has_sums values.old) stat (mapped Count (count_rule (count_claim (got (entries E.Element.sums.has_sums values.old) stat)) (count_claim (got (entries E.Element.sums.has_sums other.now) stat)))) }
+) -> Precision<StatValue<E, E::Sum>>
+    ensures { result ≡ mapped Flag (sorted_rule (in_step comparison E.Ordered.order) (flag_claim (got (entries E.Element.sums.has_sums mine.now) stat)) (flag_claim (got (entries E.Element.sums.has_sums other.now) stat)) (element_claim (got (entries E.Element.sums.has_sums mine.now) Max)) (element_claim (got (entries E.Element.sums.has_sums other.now) Min))) }
 {
-    let claim = leaves::merge_count(count_in(values.get(stat)), count_in(other.get(stat)));
-    let _ = values.set(stat, of_count(claim));
+    Flags::claim(leaves::merge_sortedness(
+        comparison,
+        Flags::claim_in(mine.get(stat)),
+        Flags::claim_in(other.get(stat)),
+        Elements::claim_in(mine.get(Stat::Max)),
+        Elements::claim_in(other.get(Stat::Min)),
+    ))
 }

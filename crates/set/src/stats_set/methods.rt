@@ -142,7 +142,7 @@ impl<E: Element> StatsSet<E, E::Sum> {
         ensures { listed result ≡ filter (counts E.Element.sums.has_sums) (listed self.now.order) }
     {
         let mut order = self.order;
-        if !E::sums() && !self.claims.sum.is_absent() {
+        if !E::HAS_SUMS && !self.claims.sum.is_absent() {
             order.retain(&all_but(Stat::Sum));
         }
         order
@@ -191,7 +191,7 @@ fn is_kind<E: Element>(stat: Stat, value: StatValue<E, E::Sum>) -> bool
             StatValue::Flag(_)
         ),
         Stat::Max | Stat::Min => matches!(value, StatValue::Element(_)),
-        Stat::Sum => E::sums() && matches!(value, StatValue::Sum(_)),
+        Stat::Sum => E::HAS_SUMS && matches!(value, StatValue::Sum(_)),
         Stat::NullCount | Stat::UncompressedSizeInBytes | Stat::NaNCount => matches!(
             value,
             StatValue::Count(_)
@@ -203,7 +203,7 @@ fn is_kind<E: Element>(stat: Stat, value: StatValue<E, E::Sum>) -> bool
 fn counted<E: Element>(stat: Stat) -> bool
     ensures { result ≡ counts E.Element.sums.has_sums stat }
 {
-    E::sums() || !stat.same(Stat::Sum)
+    E::HAS_SUMS || !stat.same(Stat::Sum)
 }
 
 // Every statistic is marked but one.
