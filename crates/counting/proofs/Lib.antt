@@ -1,4 +1,3 @@
 pub mod Even
 pub mod Running
 pub mod Filling
-pub mod Telling

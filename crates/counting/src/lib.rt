@@ -10,8 +10,8 @@ ghost use Rattle.counting.specs.Tallied.{fresh, with_row};
 
 use rules::element::Element;
 use rules::provider::StatsProvider;
-use statement::Statement;
 use set::stats_set::StatsSet;
+use statement::Statement;
 use tally::Tally;
 
 mod tally;
@@ -55,10 +55,10 @@ impl<'a, E: Element> StatsProvider<E> for LiveCount<'a, E> {
     ghost proper = { λ p. counted_proper (column E.Ordered.order E.Sum.Ordered.order E.Element.sums) p.rows.now };
 
     fn len(&mut self) -> usize {
-        tallied(self.rows).told_len(self.rows.len() as u64)
+        count(self.rows).len()
     }
 
     fn tell(&mut self, place: usize) -> Option<Statement<E, E::Sum>> {
-        tallied(self.rows).told(self.rows.len() as u64, place)
+        count(self.rows).tell(place)
     }
 }

@@ -44,8 +44,7 @@ pub fn merge_constant<T: Ordered>(
     ensures { result ≡ constant_rule T.Ordered.order mine other my_min other_min }
 {
     match (mine, other) {
-        (Exact(false), _) => Exact(false),
-        (_, Exact(false)) => Exact(false),
+        (Exact(false), _) | (_, Exact(false)) => Exact(false),
         (Exact(true), Exact(true)) => match (my_min, other_min) {
             (Exact(a), Exact(b)) => Exact(a.compare(b).is_eq()),
             // without both, as for a part that is all null, the parts cannot be compared
@@ -82,20 +81,23 @@ pub fn merge_sortedness<T: Ordered>(
 pub fn merge_max<T: Ordered>(mine: Precision<T>, other: Precision<T>) -> Precision<T>
     ensures { result ≡ or_absent (upper_union T.Ordered.order mine other) }
 {
-    match UpperBound(mine).union(&UpperBound(other)) {
-        Some(bound) => bound.into_value(),
-        None => Absent,
-    }
+    merge_bound::<T, UpperBound<T>>(mine, other)
 }
 
 // The least of both parts.
 pub fn merge_min<T: Ordered>(mine: Precision<T>, other: Precision<T>) -> Precision<T>
     ensures { result ≡ or_absent (lower_union T.Ordered.order mine other) }
 {
-    match LowerBound(mine).union(&LowerBound(other)) {
-        Some(bound) => bound.into_value(),
-        None => Absent,
-    }
+    merge_bound::<T, LowerBound<T>>(mine, other)
+}
+
+// The claim of the union of two claims read as bounds.
+fn merge_bound<T: Ordered, B: StatBound<T>>(mine: Precision<T>, other: Precision<T>) -> Precision<T>
+    ensures { result ≡ or_absent (B.united mine other) }
+{
+    B::lift(mine)
+        .union(&B::lift(other))
+        .map_or(Absent, |bound| bound.into_value())
 }
 
 // Two exact sums that add. Anything else leaves the sum of both unknown.
@@ -103,10 +105,7 @@ pub fn merge_sum<E: Element>(mine: Precision<E::Sum>, other: Precision<E::Sum>) 
     ensures { result ≡ sum_rule E.Element.sums.plus mine other }
 {
     match (mine, other) {
-        (Exact(a), Exact(b)) => match E::plus(a, b) {
-            Some(sum) => Exact(sum),
-            None => Absent,
-        },
+        (Exact(a), Exact(b)) => E::plus(a, b).map_or(Absent, Exact),
         _ => Absent,
     }
 }
@@ -116,14 +115,8 @@ pub fn merge_count(mine: Precision<u64>, other: Precision<u64>) -> Precision<u64
     ensures { result ≡ count_rule mine other }
 {
     match mine.zip(other) {
-        Exact((a, b)) => match a.checked_add(b) {
-            Some(total) => Exact(total),
-            None => Absent,
-        },
-        Inexact((a, b)) => match a.checked_add(b) {
-            Some(total) => Inexact(total),
-            None => Absent,
-        },
+        Exact((a, b)) => a.checked_add(b).map_or(Absent, Exact),
+        Inexact((a, b)) => a.checked_add(b).map_or(Absent, Inexact),
         Absent => Absent,
     }
 }

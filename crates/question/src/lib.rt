@@ -5,17 +5,14 @@ ghost use Rattle.statement.specs.declared.Statement.{Statement as Said};
 ghost use Rattle.rules.specs.Column.{column};
 ghost use Rattle.set.specs.Viewed.{entries};
 ghost use Rattle.book.specs.Law.{Honest};
-ghost use Rattle.precision.specs.Claims.{value_of};
-ghost use Rattle.order.specs.Order.{below, above};
-ghost use Rattle.question.specs.Asked.{passes, in_range, out_of_range, is_null, no_nulls};
+ghost use Rattle.question.specs.Asked.{in_range, out_of_range, is_null, no_nulls};
 ghost use Rattle.question.specs.Asking.{range_honest, null_honest};
 
-use claims::{count_in, element_in};
 use order::ordered::Ordered;
-use precision::precision::Precision;
 use rules::element::Element;
 use set::stats_set::StatsSet;
 use stat::Stat;
+use statement::kind::{Counts, Elements, Kind};
 
 pub trait Question<E: Element> {
     // Which rows match, and of which claims it says skip: its meaning.
@@ -55,15 +52,14 @@ impl<E: Element> Question<E> for Range<E> {
         ensures answer { result ≡ in_range E.Ordered.order self.old.lo self.old.hi row }
         ensures steady { self.new ≡ self.old }
     {
-        match row {
-            Some(v) => !v.compare(self.lo).is_lt() & !v.compare(self.hi).is_gt(),
-            None => false,
-        }
+        row.is_some_and(|v| v.compare(self.lo).is_ge() & v.compare(self.hi).is_le())
     }
 
     fn skip(&mut self, claims: &StatsSet<E, E::Sum>) -> bool {
-        let below = is_below(element_in(claims.get(Stat::Max)), self.lo);
-        let above = is_above(element_in(claims.get(Stat::Min)), self.hi);
+        let greatest = Elements::claim_in(claims.get(Stat::Max)).into_inner();
+        let least = Elements::claim_in(claims.get(Stat::Min)).into_inner();
+        let below = greatest.is_some_and(|v| v.compare(self.lo).is_lt());
+        let above = least.is_some_and(|v| v.compare(self.hi).is_gt());
         self.lo.compare(self.hi).is_gt() | (below | above)
     }
 }
@@ -87,29 +83,7 @@ impl<E: Element> Question<E> for Null {
     }
 
     fn skip(&mut self, claims: &StatsSet<E, E::Sum>) -> bool {
-        match count_in(claims.get(Stat::NullCount)).into_inner() {
-            Some(nulls) => nulls == 0,
-            None => false,
-        }
-    }
-}
-
-// Whether there is a value, exact or not, and it is below an element.
-fn is_below<E: Element>(claim: Precision<E>, v: E) -> bool
-    ensures { result ≡ passes (λ m. below E.Ordered.order m v) (value_of claim) }
-{
-    match claim.into_inner() {
-        Some(m) => m.compare(v).is_lt(),
-        None => false,
-    }
-}
-
-// Whether there is a value, exact or not, and it is above an element.
-fn is_above<E: Element>(claim: Precision<E>, v: E) -> bool
-    ensures { result ≡ passes (λ m. above E.Ordered.order m v) (value_of claim) }
-{
-    match claim.into_inner() {
-        Some(m) => m.compare(v).is_gt(),
-        None => false,
+        let nulls = Counts::claim_in(claims.get(Stat::NullCount)).into_inner();
+        nulls.is_some_and(|n| n == 0)
     }
 }
