@@ -8,7 +8,7 @@ use Rattle.order.proofs.Orders.{Strict, below_strict, above_strict, same_is, sam
 use Rattle.precision.specs.declared.precision.Precision.{Precision}
 use Rattle.precision.specs.declared.precision.Precision.TheVariants.{Exact, Inexact, Absent}
 use Rattle.stat_bound.specs.declared.IntersectionResult.TheVariants.{Value, Empty}
-use Rattle.stat_bound.specs.Bounds.{Says, Meets, IntersectionLaw, UnionLaw, PrecisionAllows, precision_union, precision_intersection, bound_equals, Equates, union_by, intersection_by, lower_union, lower_intersection, upper_union, upper_intersection, LowerAllows, UpperAllows}
+use Rattle.stat_bound.specs.Bounds.{Meets, IntersectionLaw, UnionLaw, PrecisionAllows, Allows, precision_union, precision_intersection, bound_equals, Equates, union_by, intersection_by, lower_union, lower_intersection, upper_union, upper_intersection, LowerAllows, UpperAllows}
 
 -- a result that gives a claim is not empty, since some value is allowed by both sides
 nonempty : {T : Type 0} (allows : Precision T → T → Type 0) (x y c : Precision T) (v : T) → allows x v → allows y v → ((u : T) → allows x u → allows y u → allows c u) → ((u : T) → allows c u → allows x u × allows y u) → Meets allows x y (Value c)
@@ -47,10 +47,6 @@ precision_unites order (Inexact x) Absent a b = absurd (true≢false b)
 precision_unites order Absent (Exact y) a b = absurd (true≢false a)
 precision_unites order Absent (Inexact y) a b = absurd (true≢false a)
 precision_unites order Absent Absent a b = absurd (true≢false a)
-
--- what a claim allows, over the test by which an inexact one rules out
-abbrev Allows : {T : Type 0} → (T → T → Bool) → Precision T → T → Type 0
-Allows ahead c x = Says (λ v. x ≡ v) (λ v. ahead x v ≡ false) c
 
 module _ {T : Type 0} (order : T → T → Ordering) (laws : OrderLaws order) (ahead behind : T → T → Bool) (strict : Strict ahead behind) (other : Strict behind ahead) where
   -- an exact claim that does not lie ahead of an inexact one is what both allow
