@@ -1,16 +1,15 @@
 #![tactic(auto)]
 // Lower bounds.
 ghost use Rattle.std.specs.Prelude.{◌≡◌};
-ghost use Rattle.order.specs.Order.{lesser};
+ghost use Rattle.order.specs.Order.{below, lesser};
 ghost use Rattle.precision.specs.Claims.{value_of, is_exact as exactness};
 ghost use Rattle.stat_bound.specs.Bounds.{LowerAllows, lower_union, lower_intersection, bound_equals, Equates, lower_compared, Compares};
 ghost use Rattle.stat_bound.specs.Laws.{lower_intersects, lower_unites};
 ghost use Rattle.std.proofs.Common.{rules};
 
 use order::ordered::Ordered;
-use order::partial_ord::{partial_max, partial_min};
 use precision::precision::Precision;
-use precision::precision::Precision::{Absent, Exact, Inexact};
+use stat_bound::side::Side;
 use stat_bound::{IntersectionResult, StatBound};
 use std::cmp::Ordering;
 
@@ -70,62 +69,27 @@ impl<T: Ordered> StatBound<T> for LowerBound<T> {
     }
 
     fn to_exact(&self) -> Option<&T> {
-        match &self.0 {
-            Exact(val) => Some(val),
-            _ => None,
-        }
+        self.0.to_exact()
     }
 
     fn union(&self, other: &Self) -> Option<Self> {
-        Some(LowerBound(match (self.0, other.0) {
-            (Exact(lhs), Exact(rhs)) => Exact(partial_min(lhs, rhs)?),
-            (Inexact(lhs), Inexact(rhs)) => Inexact(partial_min(lhs, rhs)?),
-            (Inexact(floor), Exact(least)) => {
-                if least.compare(floor).is_le() {
-                    Exact(least)
-                } else {
-                    Inexact(floor)
-                }
-            }
-            (Exact(least), Inexact(floor)) => {
-                if floor.compare(least).is_ge() {
-                    Exact(least)
-                } else {
-                    Inexact(floor)
-                }
-            }
-            _ => return None,
-        }))
+        Some(LowerBound(Self::union_of(self.0, other.0)?))
     }
 
     fn intersection(&self, other: &Self) -> Option<IntersectionResult<Self>> {
-        Some(match (self.0, other.0) {
-            (Exact(lhs), Exact(rhs)) => {
-                if lhs.compare(rhs).is_eq() {
-                    IntersectionResult::Value(LowerBound(Exact(lhs)))
-                } else {
-                    IntersectionResult::Empty
-                }
-            }
-            (Inexact(lhs), Inexact(rhs)) => IntersectionResult::Value(LowerBound(Inexact(
-                partial_max(lhs, rhs)?,
-            ))),
-            (Inexact(floor), Exact(value)) => {
-                if value.compare(floor).is_ge() {
-                    IntersectionResult::Value(LowerBound(Exact(value)))
-                } else {
-                    IntersectionResult::Empty
-                }
-            }
-            (Exact(value), Inexact(floor)) => {
-                if floor.compare(value).is_le() {
-                    IntersectionResult::Value(LowerBound(Exact(value)))
-                } else {
-                    IntersectionResult::Empty
-                }
-            }
-            _ => return None,
+        Some(match Self::intersection_of(self.0, other.0)? {
+            IntersectionResult::Value(claim) => IntersectionResult::Value(LowerBound(claim)),
+            IntersectionResult::Empty => IntersectionResult::Empty,
         })
+    }
+}
+
+// A lower bound limits from below: what is below lies ahead.
+impl<T: Ordered> Side<T> for LowerBound<T> {
+    ghost ahead = { below T.Ordered.order };
+
+    fn is_ahead(a: T, b: T) -> bool {
+        a.compare(b).is_lt()
     }
 }
 
@@ -134,23 +98,13 @@ impl<T: Ordered> LowerBound<T> {
     pub fn eq_value(&self, other: &T) -> bool
         ensures { Equates (LowerAllows T.order) (bound_equals T.order self.now.0 other.now) self.now.0 other.now result }
     {
-        match self.0 {
-            Exact(lhs) => lhs.compare(*other).is_eq(),
-            _ => false,
-        }
+        Self::equals(self.0, *other)
     }
 
     // An exact bound compares as its value does; an inexact one can only be known to be above a value.
     pub fn partial_cmp_value(&self, other: &T) -> Option<Ordering>
         ensures { Compares T.order (LowerAllows T.order) (lower_compared T.order self.now.0 other.now) self.now.0 other.now result }
     {
-        match self.0 {
-            Exact(lhs) => Some(lhs.compare(*other)),
-            Inexact(lhs) => match lhs.compare(*other) {
-                Ordering::Greater => Some(Ordering::Greater),
-                _ => None,
-            },
-            Absent => None,
-        }
+        Self::compared(self.0, *other)
     }
 }

@@ -79,6 +79,10 @@ module _ {T : Type 0} (order : T → T → Ordering) where
 
 -- Lower and upper bounds.
 
+-- what a claim allows, over the test of what lies ahead: exact only its value, inexact no value ahead of it
+abbrev pub Allows : {T : Type 0} → (T → T → Bool) → Precision T → T → Type 0
+Allows ahead c x = Says (λ v. x ≡ v) (λ v. ahead x v ≡ false) c
+
 -- of two values the one that lies ahead by the test, with its precision; of equal values Exact if either is
 abbrev pub union_by : {T : Type 0} → (T → T → Bool) → Precision T → Precision T → Option (Precision T)
 union_by ahead (Exact x) (Exact y) = Some (Exact (cond (ahead x y) x y))
@@ -94,10 +98,10 @@ union_by ahead Absent Absent = None
 module _ {T : Type 0} (order : T → T → Ordering) where
   -- what a claim allows as a lower or an upper bound: exact only its value, inexact no value below it, or above it
   abbrev pub LowerAllows : Precision T → T → Type 0
-  LowerAllows c x = Says (λ v. x ≡ v) (λ v. below order x v ≡ false) c
+  LowerAllows = Allows (below order)
 
   abbrev pub UpperAllows : Precision T → T → Type 0
-  UpperAllows c x = Says (λ v. x ≡ v) (λ v. above order x v ≡ false) c
+  UpperAllows = Allows (above order)
 
   -- an inexact claim rules out what lies ahead of it; of two inexact claims the one that rules out more
   abbrev pub intersection_by : (T → T → Bool) → (T → T → Bool) → Precision T → Precision T → Option (IntersectionResult (Precision T))
@@ -124,7 +128,13 @@ module _ {T : Type 0} (order : T → T → Ordering) where
   abbrev pub upper_intersection : Precision T → Precision T → Option (IntersectionResult (Precision T))
   upper_intersection = intersection_by (above order) (below order)
 
-  -- how a bound compares with a plain value, where that is known: an inexact lower bound can only be above it, an inexact upper bound below
+  -- how a bound compares with a plain value, where that is known: an inexact one only with a value that lies ahead of it
+  abbrev pub compared_by : (T → T → Bool) → Precision T → T → Option Ordering
+  compared_by ahead (Exact x) v = Some (order x v)
+  compared_by ahead (Inexact x) v = cond (ahead v x) (Some (order x v)) None
+  compared_by ahead Absent v = None
+
+  -- the same from either side: an inexact lower bound can only be known to be above a value, an inexact upper bound below
   abbrev pub known_above : T → T → Option Ordering
   known_above x v = cond (above order x v) (Some Greater) None
 

@@ -1,5 +1,7 @@
 #![tactic(auto)]
 // A claim read as a bound: what values it allows, and the union and the intersection of two of them.
+pub mod side;
+
 ghost use Rattle.std.specs.Prelude.{◌≡◌, Option as Maybe};
 ghost use Rattle.std.specs.Option.{option_map};
 ghost use Rattle.order.specs.Order.{lesser};
@@ -121,10 +123,8 @@ impl<T: Ordered> StatBound<T> for Precision<T> {
                     IntersectionResult::Empty
                 }
             }
-            (Precision::Exact(exact), Precision::Inexact(_)) => IntersectionResult::Value(
-                Precision::Exact(exact),
-            ),
-            (Precision::Inexact(_), Precision::Exact(exact)) => IntersectionResult::Value(
+            (Precision::Exact(exact), Precision::Inexact(_))
+            | (Precision::Inexact(_), Precision::Exact(exact)) => IntersectionResult::Value(
                 Precision::Exact(exact),
             ),
             (Precision::Inexact(lhs), Precision::Inexact(rhs)) => IntersectionResult::Value(

@@ -1,16 +1,15 @@
 #![tactic(auto)]
 // Upper bounds.
 ghost use Rattle.std.specs.Prelude.{◌≡◌};
-ghost use Rattle.order.specs.Order.{greater};
+ghost use Rattle.order.specs.Order.{above, greater};
 ghost use Rattle.precision.specs.Claims.{value_of, is_exact as exactness};
 ghost use Rattle.stat_bound.specs.Bounds.{UpperAllows, upper_union, upper_intersection, bound_equals, Equates, upper_compared, Compares};
 ghost use Rattle.stat_bound.specs.Laws.{upper_intersects, upper_unites};
 ghost use Rattle.std.proofs.Common.{rules};
 
 use order::ordered::Ordered;
-use order::partial_ord::{partial_max, partial_min};
 use precision::precision::Precision;
-use precision::precision::Precision::{Absent, Exact, Inexact};
+use stat_bound::side::Side;
 use stat_bound::{IntersectionResult, StatBound};
 use std::cmp::Ordering;
 
@@ -70,62 +69,27 @@ impl<T: Ordered> StatBound<T> for UpperBound<T> {
     }
 
     fn to_exact(&self) -> Option<&T> {
-        match &self.0 {
-            Exact(val) => Some(val),
-            _ => None,
-        }
+        self.0.to_exact()
     }
 
     fn union(&self, other: &Self) -> Option<Self> {
-        Some(UpperBound(match (self.0, other.0) {
-            (Exact(lhs), Exact(rhs)) => Exact(partial_max(lhs, rhs)?),
-            (Inexact(lhs), Inexact(rhs)) => Inexact(partial_max(lhs, rhs)?),
-            (Inexact(ceiling), Exact(greatest)) => {
-                if greatest.compare(ceiling).is_ge() {
-                    Exact(greatest)
-                } else {
-                    Inexact(ceiling)
-                }
-            }
-            (Exact(greatest), Inexact(ceiling)) => {
-                if ceiling.compare(greatest).is_le() {
-                    Exact(greatest)
-                } else {
-                    Inexact(ceiling)
-                }
-            }
-            _ => return None,
-        }))
+        Some(UpperBound(Self::union_of(self.0, other.0)?))
     }
 
     fn intersection(&self, other: &Self) -> Option<IntersectionResult<Self>> {
-        Some(match (self.0, other.0) {
-            (Exact(lhs), Exact(rhs)) => {
-                if lhs.compare(rhs).is_eq() {
-                    IntersectionResult::Value(UpperBound(Exact(lhs)))
-                } else {
-                    IntersectionResult::Empty
-                }
-            }
-            (Inexact(lhs), Inexact(rhs)) => IntersectionResult::Value(UpperBound(Inexact(
-                partial_min(lhs, rhs)?,
-            ))),
-            (Inexact(ceiling), Exact(value)) => {
-                if value.compare(ceiling).is_le() {
-                    IntersectionResult::Value(UpperBound(Exact(value)))
-                } else {
-                    IntersectionResult::Empty
-                }
-            }
-            (Exact(value), Inexact(ceiling)) => {
-                if ceiling.compare(value).is_ge() {
-                    IntersectionResult::Value(UpperBound(Exact(value)))
-                } else {
-                    IntersectionResult::Empty
-                }
-            }
-            _ => return None,
+        Some(match Self::intersection_of(self.0, other.0)? {
+            IntersectionResult::Value(claim) => IntersectionResult::Value(UpperBound(claim)),
+            IntersectionResult::Empty => IntersectionResult::Empty,
         })
+    }
+}
+
+// An upper bound limits from above: what is above lies ahead.
+impl<T: Ordered> Side<T> for UpperBound<T> {
+    ghost ahead = { above T.Ordered.order };
+
+    fn is_ahead(a: T, b: T) -> bool {
+        a.compare(b).is_gt()
     }
 }
 
@@ -134,23 +98,13 @@ impl<T: Ordered> UpperBound<T> {
     pub fn eq_value(&self, other: &T) -> bool
         ensures { Equates (UpperAllows T.order) (bound_equals T.order self.now.0 other.now) self.now.0 other.now result }
     {
-        match self.0 {
-            Exact(lhs) => lhs.compare(*other).is_eq(),
-            _ => false,
-        }
+        Self::equals(self.0, *other)
     }
 
     // An exact bound compares as its value does; an inexact one can only be known to be below a value.
     pub fn partial_cmp_value(&self, other: &T) -> Option<Ordering>
         ensures { Compares T.order (UpperAllows T.order) (upper_compared T.order self.now.0 other.now) self.now.0 other.now result }
     {
-        match self.0 {
-            Exact(lhs) => Some(lhs.compare(*other)),
-            Inexact(lhs) => match lhs.compare(*other) {
-                Ordering::Less => Some(Ordering::Less),
-                _ => None,
-            },
-            Absent => None,
-        }
+        Self::compared(self.0, *other)
     }
 }
