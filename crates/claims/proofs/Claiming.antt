@@ -1,5 +1,5 @@
 -- The claims after one was written, or after a filter, statistic by statistic.
-use Rattle.std.proofs.Common.{◌≡◌, ℕ, ◌<◌, Bool, true, false, cond, get_or, set, Some, None, Option, sym, refl, ap, ◌∙◌, arith, get_or-set_other, get_or-set_same}
+use Rattle.std.proofs.Common.{◌≡◌, ℕ, ◌<◌, Bool, true, false, cond, List, get_or, set, Some, None, Option, sym, refl, ap, ◌∙◌, arith, get_or-set_other, get_or-set_same}
 use Rattle.std.proofs.lemmas.Bool.{false≢true, and_parts, eqb-true, eqb-false}
 use Rattle.precision.specs.declared.precision.Precision.{Precision}
 use Rattle.precision.specs.declared.precision.Precision.TheVariants.{Exact, Inexact, Absent}
@@ -11,12 +11,11 @@ use Rattle.statement.specs.declared.StatValue.{StatValue}
 use Rattle.statement.specs.declared.StatValue.TheVariants.{Flag, Element, Sum, Count}
 use Rattle.rules.specs.Claims.{some?, takes, may_set}
 use Rattle.statement.specs.Kinds.{Claim, claimed, parted, flag_in, element_in, sum_in, count_in, flag_claim, element_claim, sum_claim, count_claim}
-use Rattle.listing.specs.declared.Nine.{Nine}
-use Rattle.listing.specs.Nines.{nth_nine}
+use Rattle.listing.specs.Marks.{marked}
 use Rattle.claims.specs.declared.Claims.{Claims}
 use Rattle.claims.specs.Entries.{claims_list, claim_in, with_claim, kept_claims, if_kept}
 
-number_small : (s : Stat) → stat_number s < 9
+pub number_small : (s : Stat) → stat_number s < 9
 number_small IsConstant = omega arith
 number_small IsSorted = omega arith
 number_small IsStrictSorted = omega arith
@@ -117,13 +116,13 @@ module _ {V S : Type 0} where
           ∙ get_or-set_same (claims_list c) (stat_number s) x Absent (number_small s)
       go false e = get_or-set_other (claims_list c) (stat_number s) (stat_number t) x Absent (λ h. eqb-false (stat_number s) (stat_number t) e (sym h))
 
-  pub claim_kept : (k : Nine Bool) (c : Claims V S) (t : Stat) → claim_in (kept_claims k c) t ≡ cond (nth_nine k (stat_number t)) (claim_in c t) Absent
-  claim_kept k c IsConstant = kept_mapped Flag k.s0 c.is_constant
-  claim_kept k c IsSorted = kept_mapped Flag k.s1 c.is_sorted
-  claim_kept k c IsStrictSorted = kept_mapped Flag k.s2 c.is_strict_sorted
-  claim_kept k c Max = kept_mapped Element k.s3 c.max
-  claim_kept k c Min = kept_mapped Element k.s4 c.min
-  claim_kept k c Total = kept_mapped Sum k.s5 c.sum
-  claim_kept k c NullCount = kept_mapped Count k.s6 c.null_count
-  claim_kept k c UncompressedSizeInBytes = kept_mapped Count k.s7 c.uncompressed_size_in_bytes
-  claim_kept k c NaNCount = kept_mapped Count k.s8 c.nan_count
+  pub claim_kept : (k : List Bool) (c : Claims V S) (t : Stat) → claim_in (kept_claims k c) t ≡ cond (marked k t) (claim_in c t) Absent
+  claim_kept k c IsConstant = kept_mapped Flag (marked k IsConstant) c.is_constant
+  claim_kept k c IsSorted = kept_mapped Flag (marked k IsSorted) c.is_sorted
+  claim_kept k c IsStrictSorted = kept_mapped Flag (marked k IsStrictSorted) c.is_strict_sorted
+  claim_kept k c Max = kept_mapped Element (marked k Max) c.max
+  claim_kept k c Min = kept_mapped Element (marked k Min) c.min
+  claim_kept k c Total = kept_mapped Sum (marked k Total) c.sum
+  claim_kept k c NullCount = kept_mapped Count (marked k NullCount) c.null_count
+  claim_kept k c UncompressedSizeInBytes = kept_mapped Count (marked k UncompressedSizeInBytes) c.uncompressed_size_in_bytes
+  claim_kept k c NaNCount = kept_mapped Count (marked k NaNCount) c.nan_count

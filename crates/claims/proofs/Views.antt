@@ -1,7 +1,7 @@
 -- A set's two parts as the list of its entries: what a change of the parts makes of the entries.
-use Rattle.std.proofs.Common.{◌≡◌, ℕ, zero, suc, ◌+◌, ◌<◌, Bool, true, false, cond, not, ◌&&◌, ◌||◌, ltb, ◌⊎◌, List, [], ◌∷◌, ◌++◌, length, get_or, drop, Some, None, filter, sym, refl, ap, ◌∙◌, subst, inl, inr, arith}
-use Rattle.std.proofs.lemmas.Bool.{true≢false, false≢true, cond_both, cond-true, cond-false, lt-ltb, and_parts, and_from, not-true}
-use Rattle.std.proofs.lemmas.List.{drop_more}
+use Rattle.std.proofs.Common.{◌≡◌, ℕ, zero, suc, ◌+◌, ◌<◌, Bool, true, false, cond, not, ◌&&◌, ◌||◌, ltb, ◌⊎◌, List, [], ◌∷◌, ◌++◌, length, get_or, set, take, Some, None, filter, sym, refl, ap, ◌∙◌, subst, inl, inr, arith, get_or-set_other, get_or-set_same}
+use Rattle.std.proofs.lemmas.Bool.{true≢false, false≢true, cond_both, cond-true, cond-false, lt-ltb, and_parts, and_from, not-true, eqb-true, eqb-false}
+use Rattle.std.proofs.lemmas.List.{take_more}
 use Rattle.std.proofs.lemmas.List.Elements.{filter-append}
 use Rattle.std.specs.List.{slice_get}
 use Rattle.precision.specs.declared.precision.Precision.{Precision}
@@ -17,12 +17,11 @@ use Rattle.statement.specs.Kinds.{Claim, stated}
 use Rattle.rules.specs.Sets.{Entries, got, has, without, retained, replaced, put, Apart, AllSettable, Proper}
 use Rattle.rules.proofs.Claims.{kind_settable}
 use Rattle.rules.proofs.Sets.{same_stat_is, stat_itself, neither}
-use Rattle.listing.specs.declared.Nine.{Nine}
-use Rattle.listing.specs.Nines.{nth_nine}
+use Rattle.listing.specs.Marks.{marked}
 use Rattle.claims.specs.declared.Claims.{Claims}
 use Rattle.claims.specs.Entries.{claim_in, with_claim, kept_claims, has_stat, distinct, entries_of, counts}
 use Rattle.claims.proofs.Lists.{has_kept, has_added, distinct_kept, distinct_added, room_for}
-use Rattle.claims.proofs.Claiming.{claim_with, claim_kept}
+use Rattle.claims.proofs.Claiming.{number_small, claim_with, claim_kept}
 
 module _ {V S : Type 0} where
   -- what entries tell, and which are there
@@ -102,19 +101,16 @@ module _ {V S : Type 0} (sums : Bool) (c : Claims V S) (ss : List Stat) (tied : 
       go false x = refl
 
   -- a filter of both parts
-  module _ (k : Nine Bool) where
-    abbrev marked : Stat → Bool
-    marked s = nth_nine k (stat_number s)
-
-    pub keep_tied : Tied (kept_claims k c) (filter marked ss)
-    keep_tied = (distinct_kept marked ss tied.0, λ s. has_kept marked ss s ∙ ap (λ b. marked s && b) (tied.1 s) ∙ go (marked s) (claim_in c s) ∙ sym (ap (λ x. not (is_absent x)) (claim_kept k c s)))
+  module _ (k : List Bool) where
+    pub keep_tied : Tied (kept_claims k c) (filter (marked k) ss)
+    keep_tied = (distinct_kept (marked k) ss tied.0, λ s. has_kept (marked k) ss s ∙ ap (λ b. marked k s && b) (tied.1 s) ∙ go (marked k s) (claim_in c s) ∙ sym (ap (λ x. not (is_absent x)) (claim_kept k c s)))
       where
         go : (b : Bool) (x : Claim V S) → (b && not (is_absent x)) ≡ not (is_absent (cond b x Absent))
         go true x = refl
         go false x = refl
 
-    pub keep_entries : entries_of (kept_claims k c) (filter (counts sums) (filter marked ss)) ≡ retained marked (entries_of c shown)
-    keep_entries = ap (entries_of (kept_claims k c)) (kept_twice (counts sums) marked ss) ∙ of_kept c (kept_claims k c) marked (claim_kept k c) shown
+    pub keep_entries : entries_of (kept_claims k c) (filter (counts sums) (filter (marked k) ss)) ≡ retained (marked k) (entries_of c shown)
+    keep_entries = ap (entries_of (kept_claims k c)) (kept_twice (counts sums) (marked k) ss) ∙ of_kept c (kept_claims k c) (marked k) (claim_kept k c) shown
 
   -- a claim written for a statistic, which is listed last if it was not there
   module _ (s : Stat) (x : Claim V S) (may : may_set sums s x ≡ true) (there : is_absent x ≡ false) (counted : counts sums s ≡ true) where
@@ -290,7 +286,7 @@ module _ {V S : Type 0} where
   entries_at sums e f = λ i. entries_of (e i) (filter (counts sums) (f i))
 
   module _ (sums : Bool) (c : Claims V S) (ss : List Stat) (tied : Tied c ss) (d : Claims V S) (ts : List Stat) where
-    pub kept_after : (k : Nine Bool) → d ≡ kept_claims k c → ts ≡ filter (λ s. nth_nine k (stat_number s)) ss → Tied d ts × (entries_of d (filter (counts sums) ts) ≡ retained (λ s. nth_nine k (stat_number s)) (entries_of c (filter (counts sums) ss)))
+    pub kept_after : (k : List Bool) → d ≡ kept_claims k c → ts ≡ filter (marked k) ss → Tied d ts × (entries_of d (filter (counts sums) ts) ≡ retained (marked k) (entries_of c (filter (counts sums) ss)))
     kept_after k e f = (tied_at e f (keep_tied sums c ss tied k), entries_at sums e f ∙ keep_entries sums c ss tied k)
 
     pub put_after : (s : Stat) (x : Claim V S) → may_set sums s x ≡ true → is_absent x ≡ false → d ≡ with_claim c s x → ts ≡ cond (is_absent (claim_in c s)) (cond (ltb (length ss) 9) (ss ++ (s ∷ [])) ss) ss → Tied d ts × (entries_of d (filter (counts sums) ts) ≡ put (entries_of c (filter (counts sums) ss)) s x)
@@ -303,16 +299,16 @@ module _ {V S : Type 0} where
         room true a = cond-true (ltb (length ss) 9) (ss ++ (s ∷ [])) ss (lt-ltb (length ss) 9 (put_room sums c ss tied s x may there (may_count sums s x may there) a))
         room false a = refl
 
--- what a list names: the front of it, and the rest
-pub has_rest : (ss : List Stat) (s : Stat) (i : ℕ) (d : Stat) → i < length ss → has_stat (drop i ss) s ≡ cond (same_stat s (get_or ss i d)) true (has_stat (drop (i + 1) ss) s)
-has_rest ss s i d h = ap (λ l. has_stat l s) (drop_more ss i d h)
+-- a loop that marks what a list names: the marks of the front of it, and of one more
+pub mark_more : (marks : List Bool) (ss : List Stat) (i : ℕ) (d : Stat) → length marks ≡ 9 → i < length ss → ((t : Stat) → marked marks t ≡ has_stat (take i ss) t) → (t : Stat) → marked (set marks (stat_number (get_or ss i d)) true) t ≡ has_stat (take (i + 1) ss) t
+mark_more marks ss i d nine h e t = go (same_stat t s) refl ∙ sym (ap (λ l. has_stat l t) (take_more ss i d h) ∙ has_added (take i ss) s t)
+  where
+    s : Stat
+    s = get_or ss i d
 
--- a loop that looks for s: found at i, or not there
-pub named_here : (ss : List Stat) (s : Stat) (i : ℕ) (d : Stat) → i < length ss → has_stat ss s ≡ has_stat (drop i ss) s → true ≡ same_stat s (get_or ss i d) → true ≡ has_stat ss s
-named_here ss s i d h e f = sym (e ∙ has_rest ss s i d h ∙ ap (λ b. cond b true (has_stat (drop (i + 1) ss) s)) (sym f))
-
-pub named_on : (ss : List Stat) (s : Stat) (i : ℕ) (d : Stat) → i < length ss → has_stat ss s ≡ has_stat (drop i ss) s → false ≡ same_stat s (get_or ss i d) → has_stat ss s ≡ has_stat (drop (i + 1) ss) s
-named_on ss s i d h e f = e ∙ has_rest ss s i d h ∙ ap (λ b. cond b true (has_stat (drop (i + 1) ss) s)) (sym f)
+    go : (b : Bool) → same_stat t s ≡ b → marked (set marks (stat_number s) true) t ≡ cond b true (has_stat (take i ss) t)
+    go true f = ap (λ n. get_or (set marks (stat_number s) true) n false) (eqb-true (stat_number t) (stat_number s) f) ∙ get_or-set_same marks (stat_number s) true false (omega (arith, number_small s, nine))
+    go false f = get_or-set_other marks (stat_number s) (stat_number t) true false (eqb-false (stat_number t) (stat_number s) f) ∙ e t
 
 -- entries by place
 module _ {V S : Type 0} (c : Claims V S) where

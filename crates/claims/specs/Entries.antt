@@ -9,7 +9,7 @@ use Rattle.stat.specs.Stats.{stat_number, same_stat}
 use Rattle.statement.specs.declared.StatValue.TheVariants.{Flag, Element, Sum, Count}
 use Rattle.statement.specs.Kinds.{Claim, flag_claim, element_claim, sum_claim, count_claim, stated}
 use Rattle.rules.specs.Sets.{Entries}
-use Rattle.listing.specs.declared.Nine.{Nine}
+use Rattle.listing.specs.Marks.{marked}
 use Rattle.claims.specs.declared.Claims.{Claims}
 
 -- the nine claims, by rising number
@@ -36,8 +36,8 @@ with_claim c NaNCount x = record { is_constant = c.is_constant; is_sorted = c.is
 abbrev pub if_kept : {A : Type 0} → Bool → Precision A → Precision A
 if_kept b c = cond b c Absent
 
-abbrev pub kept_claims : {V S : Type 0} → Nine Bool → Claims V S → Claims V S
-kept_claims k c = record { is_constant = if_kept k.s0 c.is_constant; is_sorted = if_kept k.s1 c.is_sorted; is_strict_sorted = if_kept k.s2 c.is_strict_sorted; max = if_kept k.s3 c.max; min = if_kept k.s4 c.min; sum = if_kept k.s5 c.sum; null_count = if_kept k.s6 c.null_count; uncompressed_size_in_bytes = if_kept k.s7 c.uncompressed_size_in_bytes; nan_count = if_kept k.s8 c.nan_count }
+abbrev pub kept_claims : {V S : Type 0} → List Bool → Claims V S → Claims V S
+kept_claims k c = record { is_constant = if_kept (marked k IsConstant) c.is_constant; is_sorted = if_kept (marked k IsSorted) c.is_sorted; is_strict_sorted = if_kept (marked k IsStrictSorted) c.is_strict_sorted; max = if_kept (marked k Max) c.max; min = if_kept (marked k Min) c.min; sum = if_kept (marked k Total) c.sum; null_count = if_kept (marked k NullCount) c.null_count; uncompressed_size_in_bytes = if_kept (marked k UncompressedSizeInBytes) c.uncompressed_size_in_bytes; nan_count = if_kept (marked k NaNCount) c.nan_count }
 
 abbrev pub has_stat : List Stat → Stat → Bool
 has_stat [] s = false

@@ -4,7 +4,6 @@ ghost use Rattle.std.specs.Prelude.{◌≡◌, cond};
 ghost use Rattle.precision.specs.declared.precision.Precision.TheVariants.{Absent as Nothing};
 ghost use Rattle.claims.specs.Entries.{claim_in, with_claim, kept_claims, if_kept};
 
-use listing::Nine;
 use precision::precision::Precision;
 use stat::Stat;
 use statement::StatValue;
@@ -78,19 +77,19 @@ impl<E: Copy, S: Copy> Claims<E, S> {
     }
 
     // Only the claims that are marked, by number.
-    pub fn keep(&mut self, keep: &Nine<bool>)
+    pub fn keep(&mut self, keep: &[bool; 9])
         ensures { self.new ≡ kept_claims keep.now self.old }
     {
         *self = Claims {
-            is_constant: kept(keep.s0, self.is_constant),
-            is_sorted: kept(keep.s1, self.is_sorted),
-            is_strict_sorted: kept(keep.s2, self.is_strict_sorted),
-            max: kept(keep.s3, self.max),
-            min: kept(keep.s4, self.min),
-            sum: kept(keep.s5, self.sum),
-            null_count: kept(keep.s6, self.null_count),
-            uncompressed_size_in_bytes: kept(keep.s7, self.uncompressed_size_in_bytes),
-            nan_count: kept(keep.s8, self.nan_count),
+            is_constant: kept(keep[0], self.is_constant),
+            is_sorted: kept(keep[1], self.is_sorted),
+            is_strict_sorted: kept(keep[2], self.is_strict_sorted),
+            max: kept(keep[3], self.max),
+            min: kept(keep[4], self.min),
+            sum: kept(keep[5], self.sum),
+            null_count: kept(keep[6], self.null_count),
+            uncompressed_size_in_bytes: kept(keep[7], self.uncompressed_size_in_bytes),
+            nan_count: kept(keep[8], self.nan_count),
         };
     }
 }

@@ -1,2 +1,2 @@
-pub mod Nines
 pub mod Listed
+pub mod Marks

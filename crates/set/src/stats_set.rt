@@ -14,7 +14,7 @@ pub mod methods;
 
 pub struct StatsSet<E, S> {
     claims: Claims<E, S>,
-    order: Listing<Stat>,
+    order: Listing<Stat, 9>,
     // no statistic is listed twice
     ghost once: { distinct (listed order) ≡ true },
     // those are listed of which there is a claim

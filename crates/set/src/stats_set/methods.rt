@@ -2,9 +2,9 @@
 ghost use Rattle.std.specs.Prelude.{◌≡◌, true, false, not, List, [], ◌∷◌, ◌++◌, length, IfOk, if◌then◌else◌, None as Nothing, filter, ◌==◌, nat_lt};
 ghost use Rattle.std.specs.List.{slice_get};
 ghost use Rattle.stat.specs.declared.Stat.{Stat as Statistic};
-ghost use Rattle.stat.specs.Stats.{stat_number, same_stat};
+ghost use Rattle.stat.specs.Stats.{same_stat};
 ghost use Rattle.listing.specs.Listed.{listed};
-ghost use Rattle.listing.specs.Nines.{nth_nine};
+ghost use Rattle.listing.specs.Marks.{marked};
 ghost use Rattle.precision.specs.Claims.{is_absent};
 ghost use Rattle.refusal.specs.Refusals.{refused, declined};
 ghost use Rattle.claims.specs.Entries.{claim_in, has_stat, counts};
@@ -18,7 +18,7 @@ ghost use Rattle.claims.proofs.Views.{shown_proper};
 
 use super::StatsSet;
 use claims::Claims;
-use listing::{Listing, Nine};
+use listing::Listing;
 use precision::precision::Precision;
 use refusal::Refusal;
 use rules::element::Element;
@@ -89,7 +89,7 @@ impl<E: Element> StatsSet<E, E::Sum> {
     }
 
     // The order with a statistic, last if there is no claim of it.
-    fn order_with(&self, stat: Stat) -> Listing<Stat>
+    fn order_with(&self, stat: Stat) -> Listing<Stat, 9>
         ensures { listed result ≡ (if is_absent (claim_in self.now.claims stat) then (if nat_lt (length (listed self.now.order)) 9 then listed self.now.order ++ (stat ∷ []) else listed self.now.order) else listed self.now.order) }
     {
         let mut order = self.order;
@@ -116,8 +116,8 @@ impl<E: Element> StatsSet<E, E::Sum> {
     }
 
     // Keeps the entries that are marked, by number.
-    fn keep(&mut self, keep: &Nine<bool>)
-        ensures { entries E.Element.sums.has_sums self.new ≡ retained (λ s. nth_nine keep.now (stat_number s)) (entries E.Element.sums.has_sums self.old) }
+    fn keep(&mut self, keep: &[bool; 9])
+        ensures { entries E.Element.sums.has_sums self.new ≡ retained (marked keep.now) (entries E.Element.sums.has_sums self.old) }
     {
         let mut claims = self.claims;
         let mut order = self.order;
@@ -138,7 +138,7 @@ impl<E: Element> StatsSet<E, E::Sum> {
     }
 
     // The statistics of the entries, in order.
-    fn shown(&self) -> Listing<Stat>
+    fn shown(&self) -> Listing<Stat, 9>
         ensures { listed result ≡ filter (counts E.Element.sums.has_sums) (listed self.now.order) }
     {
         let mut order = self.order;
@@ -207,46 +207,21 @@ fn counted<E: Element>(stat: Stat) -> bool
 }
 
 // Every statistic is marked but one.
-fn all_but(stat: Stat) -> Nine<bool>
-    ensures { (t : Statistic) → nth_nine result (stat_number t) ≡ not (same_stat stat t) }
+fn all_but(stat: Stat) -> [bool; 9]
+    ensures { (t : Statistic) → marked result t ≡ not (same_stat stat t) }
 {
-    Nine {
-        s0: !stat.same(Stat::IsConstant),
-        s1: !stat.same(Stat::IsSorted),
-        s2: !stat.same(Stat::IsStrictSorted),
-        s3: !stat.same(Stat::Max),
-        s4: !stat.same(Stat::Min),
-        s5: !stat.same(Stat::Sum),
-        s6: !stat.same(Stat::NullCount),
-        s7: !stat.same(Stat::UncompressedSizeInBytes),
-        s8: !stat.same(Stat::NaNCount),
-    }
+    let mut marks = [true; 9];
+    marks[stat.number() as usize] = false;
+    marks
 }
 
 // Those are marked that are named.
-fn only(stats: &[Stat]) -> Nine<bool>
-    ensures { (t : Statistic) → nth_nine result (stat_number t) ≡ has_stat stats.now t }
+fn only(stats: &[Stat]) -> [bool; 9]
+    ensures { (t : Statistic) → marked result t ≡ has_stat stats.now t }
 {
-    Nine {
-        s0: names(stats, Stat::IsConstant),
-        s1: names(stats, Stat::IsSorted),
-        s2: names(stats, Stat::IsStrictSorted),
-        s3: names(stats, Stat::Max),
-        s4: names(stats, Stat::Min),
-        s5: names(stats, Stat::Sum),
-        s6: names(stats, Stat::NullCount),
-        s7: names(stats, Stat::UncompressedSizeInBytes),
-        s8: names(stats, Stat::NaNCount),
+    let mut marks = [false; 9];
+    for stat in stats {
+        marks[stat.number() as usize] = true;
     }
-}
-
-fn names(stats: &[Stat], stat: Stat) -> bool
-    ensures { result ≡ has_stat stats.now stat }
-{
-    for named in stats {
-        if stat.same(*named) {
-            return true;
-        }
-    }
-    false
+    marks
 }

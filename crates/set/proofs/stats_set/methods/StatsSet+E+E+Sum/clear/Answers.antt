@@ -1,6 +1,5 @@
 use Rattle.std.proofs.Common.{◌∙◌}
-use Rattle.stat.specs.Stats.{stat_number}
-use Rattle.listing.specs.Nines.{nth_nine}
+use Rattle.listing.specs.Marks.{marked}
 use Rattle.rules.specs.Column.{column}
 use Rattle.claims.proofs.Views.{retained_others}
 use Rattle.set.specs.Viewed.{entries}
@@ -11,5 +10,5 @@ pub returns : goal.returns
 returns g c =
     let sums = g.E.Element.sums.has_sums in
     let es = entries sums c.args.self.now in
-    let e = c.keep.ensures ∙ retained_others es c.args.stat (λ s. nth_nine c.all_but.result (stat_number s)) c.all_but.ensures in
+    let e = c.keep.ensures ∙ retained_others es c.args.stat (marked c.all_but.result) c.all_but.ensures in
     record { after = e; truth = cleared_true (column g.E.Ordered.order g.E.Sum.Ordered.order g.E.Element.sums) es _ c.args.stat e }

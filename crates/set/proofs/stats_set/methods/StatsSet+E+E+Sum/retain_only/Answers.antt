@@ -1,6 +1,5 @@
 use Rattle.std.proofs.Common.{◌∙◌}
-use Rattle.stat.specs.Stats.{stat_number}
-use Rattle.listing.specs.Nines.{nth_nine}
+use Rattle.listing.specs.Marks.{marked}
 use Rattle.claims.specs.Entries.{has_stat}
 use Rattle.claims.proofs.Views.{retained_same}
 use Rattle.rules.specs.Column.{column}
@@ -12,5 +11,5 @@ pub returns : goal.returns
 returns g c =
     let sums = g.E.Element.sums.has_sums in
     let es = entries sums c.args.self.now in
-    let e = c.keep.ensures ∙ retained_same es (λ s. nth_nine c.only.result (stat_number s)) (has_stat c.args.stats.now) c.only.ensures in
+    let e = c.keep.ensures ∙ retained_same es (marked c.only.result) (has_stat c.args.stats.now) c.only.ensures in
     record { after = e; truth = retained_true (column g.E.Ordered.order g.E.Sum.Ordered.order g.E.Element.sums) es _ (has_stat c.args.stats.now) e }
