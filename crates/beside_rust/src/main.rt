@@ -7,18 +7,17 @@ use lower_bound::LowerBound;
 use merge::MergeSets;
 use order::ordered::Ordered;
 use precision::precision::Precision;
+use refusal::Refusal;
 use rules::element::Element;
-use rules::provider::StatsProvider;
-use statement::{StatValue, Statement};
 use set::stats_set::StatsSet;
-use stat::Stat;
+use stat::{ParseStatError, Stat};
 use stat_bound::{IntersectionResult, StatBound};
-use std::alloc::Global;
+use statement::{StatValue, Statement};
+use std::alloc::{AllocError, AllocFailed, Global};
 use std::env;
-use std::fmt::{Display, Write};
+use std::fmt;
 use std::io::{BufRead, BufReader};
 use std::str::FromStr;
-use text::{Shown, Stated, read_as, read_stat, read_statement};
 use upper_bound::UpperBound;
 
 const HELP: &str =
@@ -42,6 +41,91 @@ count:V, sum:V or element:V. A refusal is: refused NUMBER | SET. A line that is 
 // A set of a column that sums up to measures.
 type Zone<E> = StatsSet<E, Measure>;
 
+// Why a line has no answer.
+#[derive(Drop)]
+enum Failure {
+    // it is no request
+    Unreadable,
+    Memory(AllocError),
+}
+
+impl From<AllocFailed<Stat>> for Failure {
+    fn from(failed: AllocFailed<Stat>) -> Self {
+        Failure::Memory(AllocError::from(failed))
+    }
+}
+
+impl From<ParseStatError> for Failure {
+    fn from(_why: ParseStatError) -> Self {
+        Failure::Unreadable
+    }
+}
+
+// A request on two parts of a column.
+#[derive(Clone, Copy)]
+struct Request<'a> {
+    column: &'a str,
+    name: &'a str,
+    first: &'a str,
+    second: &'a str,
+}
+
+impl<'a> Request<'a> {
+    // `COLUMN NAME | FIRST | SECOND`
+    fn read(text: &'a str) -> Option<Self> {
+        let (head, parts) = text.split_once('|')?;
+        let (first, second) = parts.split_once('|')?;
+        let (column, name) = head.trim().split_once(' ')?;
+        Some(Request {
+            column,
+            name: name.trim(),
+            first: first.trim(),
+            second: second.trim(),
+        })
+    }
+}
+
+// What a request comes to.
+enum Outcome<E: Element<Sum = Measure>> {
+    // what was declined, if anything was, and the first set afterwards
+    Set(Option<Refusal>, Zone<E>),
+    Claim(Precision<StatValue<E, Measure>>),
+    Union(Option<Precision<E>>),
+    Intersection(Option<IntersectionResult<Precision<E>>>),
+}
+
+impl<E: Element<Sum = Measure> + fmt::Display> fmt::Display for Outcome<E> {
+    fn fmt<W: fmt::Write>(&self, f: &mut fmt::Formatter<W>) -> fmt::Result {
+        match self {
+            Outcome::Set(Some(refusal), zone) => write!(f, "{refusal} | {zone}"),
+            Outcome::Set(None, zone) => write!(f, "{zone}"),
+            Outcome::Claim(claim) => write!(f, "{claim}"),
+            Outcome::Union(Some(claim)) => write!(f, "value {claim}"),
+            Outcome::Intersection(Some(IntersectionResult::Value(claim))) => write!(
+                f,
+                "value {claim}"
+            ),
+            Outcome::Intersection(Some(IntersectionResult::Empty)) => write!(f, "empty"),
+            Outcome::Union(None) | Outcome::Intersection(None) => write!(f, "none"),
+        }
+    }
+}
+
+// What a request comes to, by its column.
+enum Reply {
+    Measures(Outcome<Measure>),
+    Marks(Outcome<Mark>),
+}
+
+impl fmt::Display for Reply {
+    fn fmt<W: fmt::Write>(&self, f: &mut fmt::Formatter<W>) -> fmt::Result {
+        match self {
+            Reply::Measures(outcome) => write!(f, "{outcome}"),
+            Reply::Marks(outcome) => write!(f, "{outcome}"),
+        }
+    }
+}
+
 // A value with its kind before it.
 fn read_tagged<E: FromStr>(text: &str) -> Option<StatValue<E, Measure>>
 where
@@ -57,266 +141,144 @@ where
     }
 }
 
-fn read_tagged_claim<E: FromStr>(text: &str) -> Option<Precision<StatValue<E, Measure>>>
-where
-    E::Err: Drop,
-{
-    match text.strip_prefix('~') {
-        Some(value) => Some(Precision::Inexact(read_tagged(value)?)),
-        None => Some(Precision::Exact(read_tagged(text)?)),
-    }
-}
-
 // A statement, whatever the kind of its value.
 fn read_told<E: FromStr + Copy>(word: &str) -> Option<Statement<E, Measure>>
 where
     E::Err: Drop,
 {
-    if let Some(statement) = read_statement::<E, Measure>(word) {
+    if let Ok(statement) = Statement::<E, Measure>::from_str(word) {
         return Some(statement);
     }
-    let (name, claim) = word.split_once('=')?;
-    let stat = read_stat(name)?;
-    Some(Statement {
-        stat,
-        claim: read_tagged_claim(claim)?,
-    })
+    let (name, text) = word.split_once('=')?;
+    let stat = Stat::from_str(name).ok()?;
+    let claim = match text.strip_prefix('~') {
+        Some(value) => Precision::Inexact(read_tagged(value)?),
+        None => Precision::Exact(read_tagged(text)?),
+    };
+    Some(Statement { stat, claim })
 }
 
 // A set, by setting its statements one by one.
-fn read_set<E: Element<Sum = Measure> + FromStr>(text: &str) -> Option<Zone<E>>
+fn read_set<E: Element<Sum = Measure> + FromStr>(text: &str) -> Result<Zone<E>, Failure>
 where
     E::Err: Drop,
 {
     let mut zone = Zone::<E>::new();
-    for word in text.split_whitespace() {
-        if word == "-" {
-            continue;
-        }
-        let told = read_told::<E>(word)?;
+    for word in text.split_whitespace().filter(|word| *word != "-") {
+        let told = read_told::<E>(word).ok_or(Failure::Unreadable)?;
         if zone.set(told.stat, told.claim).is_err() {
-            return None;
+            return Err(Failure::Unreadable);
         }
     }
-    Some(zone)
+    Ok(zone)
 }
 
-fn write_set<E: Element<Sum = Measure> + Display>(
-    line: &mut String,
-    zone: &mut Zone<E>,
-) -> anyhow::Result<()> {
-    if zone.is_empty() {
-        line.push_str("-")?;
-    }
-    for place in 0..9usize {
-        let Some(statement) = zone.tell(place) else {
-            return Ok(());
-        };
-        if place > 0 {
-            line.push_str(" ")?;
-        }
-        let stated = Stated { statement };
-        write!(line, "{stated}")?;
-    }
-    Ok(())
-}
-
-// Whether the request could be read; its answer is written.
-fn answer_set<E: Element<Sum = Measure> + FromStr + Display>(
+// A request that changes the first set.
+fn change_set<E: Element<Sum = Measure> + FromStr>(
     heap: Global,
-    line: &mut String,
-    request: &str,
-    first: &str,
-    second: &str,
-) -> anyhow::Result<bool>
+    request: Request<'_>,
+) -> Result<Outcome<E>, Failure>
 where
     E::Err: Drop,
 {
-    let Some(mut zone) = read_set::<E>(first) else {
-        return Ok(false);
-    };
-    match request {
+    let mut zone = read_set::<E>(request.first)?;
+    let mut declined = None;
+    match request.name {
         "set" => {
-            let Some(told) = read_told::<E>(second) else {
-                return Ok(false);
-            };
-            if let Err(refusal) = zone.set(told.stat, told.claim) {
-                write!(line, "{refusal} | ")?;
-            }
+            let told = read_told::<E>(request.second).ok_or(Failure::Unreadable)?;
+            declined = zone.set(told.stat, told.claim).err();
         }
-        "clear" => {
-            let Some(stat) = read_stat(second) else {
-                return Ok(false);
-            };
-            zone.clear(stat);
-        }
+        "clear" => zone.clear(Stat::from_str(request.second)?),
         "retain_only" => {
             let mut stats = Vec::new(heap);
-            for word in second.split_whitespace() {
-                if word == "-" {
-                    continue;
-                }
-                let Some(stat) = read_stat(word) else {
-                    return Ok(false);
-                };
-                stats.push(stat)?;
+            for word in request.second.split_whitespace().filter(|word| *word != "-") {
+                stats.push(Stat::from_str(word)?)?;
             }
             zone.retain_only(&stats);
         }
-        "merge_ordered" => {
-            let Some(other) = read_set::<E>(second) else {
-                return Ok(false);
-            };
-            zone.merge_ordered(&other);
-        }
-        "merge_unordered" => {
-            let Some(other) = read_set::<E>(second) else {
-                return Ok(false);
-            };
-            zone.merge_unordered(&other);
-        }
+        "merge_ordered" => zone.merge_ordered(&read_set::<E>(request.second)?),
+        "merge_unordered" => zone.merge_unordered(&read_set::<E>(request.second)?),
         "combine" => {
-            let Some(mut other) = read_set::<E>(second) else {
-                return Ok(false);
-            };
-            if let Err(refusal) = zone.combine_sets(&mut other) {
-                write!(line, "{refusal} | ")?;
-            }
+            let mut other = read_set::<E>(request.second)?;
+            declined = zone.combine_sets(&mut other).err();
         }
-        _ => return Ok(false),
+        _ => return Err(Failure::Unreadable),
     }
-    write_set(line, &mut zone)?;
-    Ok(true)
+    Ok(Outcome::Set(declined, zone))
 }
 
-fn write_claim<E: Element<Sum = Measure> + FromStr + Display>(
-    line: &mut String,
-    set: &str,
-    name: &str,
-) -> anyhow::Result<bool>
-where
-    E::Err: Drop,
-{
-    let Some(zone) = read_set::<E>(set) else {
-        return Ok(false);
-    };
-    let Some(stat) = read_stat(name) else {
-        return Ok(false);
-    };
-    match zone.get(stat) {
-        Precision::Exact(value) => {
-            let value = Shown { value };
-            write!(line, "{value}")?;
-        }
-        Precision::Inexact(value) => {
-            let value = Shown { value };
-            write!(line, "~{value}")?;
-        }
-        Precision::Absent => line.push_str("{empty}")?,
-    }
-    Ok(true)
-}
-
-fn write_union<E: Ordered + Display + Drop, B: StatBound<E> + Drop>(
-    line: &mut String,
+fn union<E: Ordered + Element<Sum = Measure>, B: StatBound<E>>(
     first: Precision<E>,
     second: Precision<E>,
-) -> anyhow::Result<bool> {
-    match B::lift(first).union(&B::lift(second)) {
-        Some(bound) => {
-            let claim = bound.into_value();
-            write!(line, "value {claim}")?;
-        }
-        None => line.push_str("none")?,
-    }
-    Ok(true)
+) -> Outcome<E> {
+    let union = B::lift(first).union(&B::lift(second));
+    Outcome::Union(union.map(|bound| bound.into_value()))
 }
 
-fn write_intersection<E: Ordered + Display + Drop, B: StatBound<E> + Drop>(
-    line: &mut String,
+fn intersection<E: Ordered + Element<Sum = Measure>, B: StatBound<E>>(
     first: Precision<E>,
     second: Precision<E>,
-) -> anyhow::Result<bool> {
-    match B::lift(first).intersection(&B::lift(second)) {
-        Some(IntersectionResult::Value(bound)) => {
-            let claim = bound.into_value();
-            write!(line, "value {claim}")?;
-        }
-        Some(IntersectionResult::Empty) => line.push_str("empty")?,
-        None => line.push_str("none")?,
-    }
-    Ok(true)
+) -> Outcome<E> {
+    let intersection = B::lift(first).intersection(&B::lift(second));
+    Outcome::Intersection(intersection.map(|meet| match meet {
+        IntersectionResult::Value(bound) => IntersectionResult::Value(bound.into_value()),
+        IntersectionResult::Empty => IntersectionResult::Empty,
+    }))
 }
 
-fn answer_bound<E: Element<Sum = Measure> + FromStr + Display>(
-    line: &mut String,
-    request: &str,
-    first: &str,
-    second: &str,
-) -> anyhow::Result<bool>
+// A request on two claims.
+fn of_claims<E: Element<Sum = Measure> + FromStr, F: FnOnce(Precision<E>, Precision<E>) -> Outcome<E>>(
+    request: Request<'_>,
+    operation: F,
+) -> Result<Outcome<E>, Failure>
 where
     E::Err: Drop,
+    requires { F.IsAlwaysCallable operation }
 {
-    let Some(first) = read_as::<E>(first) else {
-        return Ok(false);
-    };
-    let Some(second) = read_as::<E>(second) else {
-        return Ok(false);
-    };
-    match request {
-        "lower_union" => write_union::<E, LowerBound<E>>(line, first, second),
-        "upper_union" => write_union::<E, UpperBound<E>>(line, first, second),
-        "precision_union" => write_union::<E, Precision<E>>(line, first, second),
-        "lower_intersection" => write_intersection::<E, LowerBound<E>>(line, first, second),
-        "upper_intersection" => write_intersection::<E, UpperBound<E>>(line, first, second),
-        _ => write_intersection::<E, Precision<E>>(line, first, second),
+    match (Precision::<E>::from_str(request.first), Precision::<E>::from_str(request.second)) {
+        (Ok(first), Ok(second)) => Ok(operation(first, second)),
+        _ => Err(Failure::Unreadable),
     }
 }
 
-fn answer<E: Element<Sum = Measure> + FromStr + Display>(
+// What a request of a column comes to.
+fn answer<E: Element<Sum = Measure> + FromStr>(
     heap: Global,
-    line: &mut String,
-    request: &str,
-    first: &str,
-    second: &str,
-) -> anyhow::Result<bool>
+    request: Request<'_>,
+) -> Result<Outcome<E>, Failure>
 where
     E::Err: Drop,
 {
-    match request {
-        "get" => write_claim::<E>(line, first, second),
-        "lower_union"
-        | "upper_union"
-        | "precision_union"
-        | "lower_intersection"
-        | "upper_intersection"
-        | "precision_intersection" => answer_bound::<E>(line, request, first, second),
-        _ => answer_set::<E>(heap, line, request, first, second),
+    match request.name {
+        "get" => {
+            let zone = read_set::<E>(request.first)?;
+            Ok(Outcome::Claim(zone.get(Stat::from_str(request.second)?)))
+        }
+        "lower_union" => of_claims(request, union::<E, LowerBound<E>>),
+        "upper_union" => of_claims(request, union::<E, UpperBound<E>>),
+        "precision_union" => of_claims(request, union::<E, Precision<E>>),
+        "lower_intersection" => of_claims(request, intersection::<E, LowerBound<E>>),
+        "upper_intersection" => of_claims(request, intersection::<E, UpperBound<E>>),
+        "precision_intersection" => of_claims(request, intersection::<E, Precision<E>>),
+        _ => change_set::<E>(heap, request),
     }
 }
 
-// Whether the line is a request; its answer is written.
-fn respond(heap: Global, line: &mut String, text: &str) -> anyhow::Result<bool> {
-    let Some((head, parts)) = text.split_once('|') else {
-        return Ok(false);
-    };
-    let Some((first, second)) = parts.split_once('|') else {
-        return Ok(false);
-    };
-    let Some((column, request)) = head.trim().split_once(' ') else {
-        return Ok(false);
-    };
-    let request = request.trim();
-    let first = first.trim();
-    let second = second.trim();
-    match column {
-        "measure" => answer::<Measure>(heap, line, request, first, second),
-        "mark" => answer::<Mark>(heap, line, request, first, second),
-        _ => Ok(false),
+// What a line comes to.
+fn respond(heap: Global, text: &str) -> Result<Reply, Failure> {
+    let request = Request::read(text).ok_or(Failure::Unreadable)?;
+    match request.column {
+        "measure" => Ok(Reply::Measures(answer(heap, request)?)),
+        "mark" => Ok(Reply::Marks(answer(heap, request)?)),
+        _ => Err(Failure::Unreadable),
     }
 }
 
-fn run(rt: &HostRuntime) -> anyhow::Result<()> {
+fn main(rt: HostRuntime) -> anyhow::Result<()> {
+    if env::args(&rt)?.skip(1).any(|word| word.as_str() == "--help") {
+        println!(rt; "{HELP}")?;
+        return Ok(());
+    }
     let heap = rt.alloc();
     for text in BufReader::new(heap, rt.stdin())?.lines(heap) {
         let text = text?;
@@ -324,29 +286,11 @@ fn run(rt: &HostRuntime) -> anyhow::Result<()> {
         if trimmed.is_empty() || trimmed.starts_with('#') {
             continue;
         }
-        let mut line = String::new(heap);
-        if respond(heap, &mut line, trimmed)? {
-            println!(rt; "{line}")?;
-        } else {
-            println!(rt; "unreadable")?;
+        match respond(heap, trimmed) {
+            Ok(reply) => println!(rt; "{reply}")?,
+            Err(Failure::Unreadable) => println!(rt; "unreadable")?,
+            Err(Failure::Memory(error)) => return Err(error.into()),
         }
     }
     Ok(())
-}
-
-fn asks_help(rt: &HostRuntime) -> anyhow::Result<bool> {
-    for word in env::args(rt)?.skip(1) {
-        if word.as_str() == "--help" {
-            return Ok(true);
-        }
-    }
-    Ok(false)
-}
-
-fn main(rt: HostRuntime) -> anyhow::Result<()> {
-    if asks_help(&rt)? {
-        println!(rt; "{HELP}")?;
-        return Ok(());
-    }
-    run(&rt)
 }

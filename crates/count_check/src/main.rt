@@ -1,13 +1,11 @@
 #![tactic(auto)]
 // Counts every slice of at most four rows over null, -1, 0 and 1, and compares each claim with a second, plain computation.
-use claims::{element_in, sum_in};
 use columns::measure::Measure;
 use counting::{LiveCount, count};
 use precision::precision::Precision;
 use rules::provider::StatsProvider;
-use statement::StatValue;
-use set::stats_set::StatsSet;
 use stat::Stat;
+use statement::{StatValue, Statement};
 use std::io;
 
 type Claim = Precision<StatValue<Measure, Measure>>;
@@ -22,115 +20,98 @@ struct Plain {
     min: Option<i64>,
     sum: i64,
     nulls: u64,
+    rows: u64,
 }
 
-// How two rows, the first before the second, bear on the flags.
-fn with_pair(mut p: Plain, earlier: Option<i64>, later: Option<i64>) -> Plain {
-    if earlier != later {
-        p.constant = false;
-    }
-    if let (Some(a), Some(b)) = (earlier, later) {
-        if a > b {
-            p.sorted = false;
-        }
-        if a >= b {
-            p.strict = false;
-        }
-    }
-    p
-}
-
-fn with_row(mut p: Plain, row: Option<i64>) -> Plain {
-    match row {
-        None => p.nulls = p.nulls.wrapping_add(1),
-        Some(v) => {
-            p.sum = p.sum.wrapping_add(v);
-            p.max = Some(p.max.unwrap_or(v).max(v));
-            p.min = Some(p.min.unwrap_or(v).min(v));
-        }
-    }
-    p
-}
-
-fn plainly(rows: &[Option<i64>]) -> Plain {
-    let mut p = Plain {
-        constant: true,
-        sorted: true,
-        strict: true,
-        max: None,
-        min: None,
-        sum: 0,
-        nulls: 0,
-    };
-    for (i, a) in rows.iter().enumerate() {
-        p = with_row(p, *a);
-        for (j, b) in rows.iter().enumerate() {
-            if i < j {
-                p = with_pair(p, *a, *b);
+impl Plain {
+    fn of(rows: &[Option<i64>]) -> Plain {
+        let mut plain = Plain {
+            constant: true,
+            sorted: true,
+            strict: true,
+            max: None,
+            min: None,
+            sum: 0,
+            nulls: 0,
+            rows: rows.len() as u64,
+        };
+        for (i, earlier) in rows.iter().enumerate() {
+            plain = plain.with_row(*earlier);
+            for later in rows.iter().skip(i.saturating_add(1)) {
+                plain = plain.with_pair(*earlier, *later);
             }
         }
+        plain
     }
-    p
-}
 
-fn is_flag(claim: Claim, expected: bool) -> bool {
-    match claim {
-        Precision::Exact(StatValue::Flag(flag)) => flag == expected,
-        _ => false,
-    }
-}
-
-fn is_element(claim: Claim, expected: Option<i64>) -> bool {
-    match element_in(claim).as_exact() {
-        Some(m) => expected == Some(m.value()),
-        None => expected.is_none() && claim.is_absent(),
-    }
-}
-
-fn is_sum(claim: Claim, expected: i64) -> bool {
-    match sum_in(claim).as_exact() {
-        Some(m) => m.value() == expected,
-        None => false,
-    }
-}
-
-fn is_count(claim: Claim, expected: u64) -> bool {
-    match claim {
-        Precision::Exact(StatValue::Count(n)) => n == expected,
-        _ => false,
-    }
-}
-
-fn agrees(set: &StatsSet<Measure, Measure>, p: Plain, rows: u64) -> bool {
-    let flags = is_flag(set.get(Stat::IsConstant), p.constant)
-        && is_flag(set.get(Stat::IsSorted), p.sorted)
-        && is_flag(set.get(Stat::IsStrictSorted), p.strict);
-    let values = is_element(set.get(Stat::Max), p.max)
-        && is_element(set.get(Stat::Min), p.min)
-        && is_sum(set.get(Stat::Sum), p.sum);
-    let counts = is_count(set.get(Stat::NullCount), p.nulls)
-        && is_count(set.get(Stat::UncompressedSizeInBytes), rows.wrapping_mul(8))
-        && is_count(set.get(Stat::NaNCount), 0);
-    flags && values && counts
-}
-
-// Whether the entries stand by rising number, as many as there should be, and a live count tells as many.
-fn in_order(set: &mut StatsSet<Measure, Measure>, live: &mut LiveCount<Measure>, p: Plain) -> bool {
-    let expected = if p.max.is_some() { 9 } else { 7 };
-    if set.len() != expected || live.len() != expected {
-        return false;
-    }
-    let mut last: Option<u8> = None;
-    for place in 0..9usize {
-        if let (Some(a), Some(b)) = (set.tell(place), live.tell(place)) {
-            let number = a.stat.number();
-            if number != b.stat.number() || falls_back(last, number) {
-                return false;
-            }
-            last = Some(number);
+    // How two rows, the first before the second, bear on the flags.
+    fn with_pair(self, earlier: Option<i64>, later: Option<i64>) -> Plain {
+        let (falls, stays) = match (earlier, later) {
+            (Some(a), Some(b)) => (a > b, a == b),
+            _ => (false, false),
+        };
+        Plain {
+            constant: self.constant && earlier == later,
+            sorted: self.sorted && !falls,
+            strict: self.strict && !falls && !stays,
+            ..self
         }
     }
-    true
+
+    fn with_row(self, row: Option<i64>) -> Plain {
+        match row {
+            None => Plain {
+                nulls: self.nulls.wrapping_add(1),
+                ..self
+            },
+            Some(v) => Plain {
+                sum: self.sum.wrapping_add(v),
+                max: Some(self.max.map_or(v, |max| max.max(v))),
+                min: Some(self.min.map_or(v, |min| min.min(v))),
+                ..self
+            },
+        }
+    }
+
+    // The claim that counting should give.
+    fn claim(&self, stat: Stat) -> Claim {
+        match stat {
+            Stat::IsConstant => Precision::Exact(StatValue::Flag(self.constant)),
+            Stat::IsSorted => Precision::Exact(StatValue::Flag(self.sorted)),
+            Stat::IsStrictSorted => Precision::Exact(StatValue::Flag(self.strict)),
+            Stat::Max => element(self.max),
+            Stat::Min => element(self.min),
+            Stat::Sum => Precision::Exact(StatValue::Sum(Measure::new(self.sum))),
+            Stat::NullCount => Precision::Exact(StatValue::Count(self.nulls)),
+            Stat::UncompressedSizeInBytes => Precision::Exact(StatValue::Count(
+                self.rows.wrapping_mul(8),
+            )),
+            Stat::NaNCount => Precision::Exact(StatValue::Count(0)),
+        }
+    }
+}
+
+fn element(value: Option<i64>) -> Claim {
+    value.map_or(
+        Precision::Absent,
+        |v| Precision::Exact(StatValue::Element(Measure::new(v))),
+    )
+}
+
+// Whether a provider tells the claims that are there, by rising number, and no more.
+fn tells<P: StatsProvider<Measure>>(provider: &mut P, plain: &Plain) -> bool {
+    let mut place = 0usize;
+    for stat in Stat::all() {
+        let claim = plain.claim(stat);
+        if claim.is_absent() {
+            continue;
+        }
+        if provider.tell(place) != Some(Statement { stat, claim }) {
+            return false;
+        }
+        place = place.wrapping_add(1);
+    }
+    provider.len() == place
 }
 
 // The row that a digit stands for.
@@ -143,54 +124,28 @@ fn row(digit: u32) -> Option<i64> {
     }
 }
 
-// Whether a number is not above the one before it.
-fn falls_back(last: Option<u8>, number: u8) -> bool {
-    match last {
-        Some(before) => number <= before,
-        None => false,
-    }
-}
-
-fn measure(row: Option<i64>) -> Option<Measure> {
-    match row {
-        Some(value) => Some(Measure::new(value)),
-        None => None,
-    }
-}
-
 // Whether counting the first `len` rows of a code agrees with the plain computation.
 fn code_agrees(code: u32, len: usize) -> bool {
-    let plain_rows = [
-        row(code % 4),
-        row(code / 4 % 4),
-        row(code / 16 % 4),
-        row(code / 64 % 4),
-    ];
-    let rows = [
-        measure(plain_rows[0]),
-        measure(plain_rows[1]),
-        measure(plain_rows[2]),
-        measure(plain_rows[3]),
-    ];
+    let digits = [code % 4, code / 4 % 4, code / 16 % 4, code / 64 % 4];
+    let values = digits.map(row);
+    let rows = values.map(|value| value.map(Measure::new));
     let len = len.min(4);
-    let p = plainly(&plain_rows[0..len]);
+    let plain = Plain::of(&values[0..len]);
     let mut set = count(&rows[0..len]);
     let mut live = LiveCount::new(&rows[0..len]);
-    agrees(&set, p, len as u64) && in_order(&mut set, &mut live, p)
+    let all = Stat::all();
+    all.iter().all(|stat| set.get(*stat) == plain.claim(*stat))
+        && tells(&mut set, &plain)
+        && tells(&mut live, &plain)
 }
 
 fn main(rt: HostRuntime) -> io::Result<()> {
     let mut slices = 0u32;
-    let mut differ = 0u32;
-    let mut codes = 1u32;
-    for len in 0..5usize {
-        for code in 0..codes {
-            slices = slices.wrapping_add(1);
-            if !code_agrees(code, len) {
-                differ = differ.wrapping_add(1);
-            }
-        }
-        codes = codes.wrapping_mul(4);
+    let mut differ = 0usize;
+    for (len, codes) in [1u32, 4, 16, 64, 256].into_iter().enumerate() {
+        slices = slices.wrapping_add(codes);
+        let wrong = (0..codes).filter(|code| !code_agrees(*code, len)).count();
+        differ = differ.wrapping_add(wrong);
     }
     println!(rt; "{slices} slices counted, {differ} differ")
 }

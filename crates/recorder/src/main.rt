@@ -4,14 +4,16 @@ use columns::mark::Mark;
 use columns::measure::Measure;
 use combine::CombineSets;
 use merge::MergeSets;
+use refusal::Refusal;
 use rules::element::Element;
-use rules::provider::StatsProvider;
 use set::stats_set::StatsSet;
+use statement::Statement;
+use statement::text::ParseStatementError;
 use std::env;
-use std::fmt::{Display, Write};
+use std::error::Error;
+use std::fmt;
 use std::io::{BufRead, BufReader};
 use std::str::FromStr;
-use text::{Stated, read_claim, read_stat};
 
 const HELP: &str =
     "recorder: merges or combines the statistics of two zones, a request a line on standard input
@@ -29,102 +31,131 @@ contradict each other it is: refused 2 STATISTIC | SET.";
 // A set of a column that sums up to measures.
 type Zone<E> = StatsSet<E, Measure>;
 
-fn read_set<E: Element<Sum = Measure> + FromStr>(text: &str) -> Result<Zone<E>, &'static str>
+// Why a line is no request.
+#[derive(Clone, Copy, PartialEq, Eq, Debug)]
+enum Unreadable {
+    NoSet,
+    NoSecondSet,
+    NoColumn,
+    NoRequest,
+    // a word of a set is no statement
+    Statement(ParseStatementError),
+    // the column has no such statistic
+    Declined(Refusal),
+}
+
+impl fmt::Display for Unreadable {
+    fn fmt<W: fmt::Write>(&self, f: &mut fmt::Formatter<W>) -> fmt::Result {
+        match self {
+            Unreadable::NoSet => write!(f, "a request is COLUMN REQUEST | SET | SET"),
+            Unreadable::NoSecondSet => write!(f, "the second set is missing"),
+            Unreadable::NoColumn => write!(f, "the column is neither measure nor mark"),
+            Unreadable::NoRequest => write!(
+                f,
+                "the request is none of merge_ordered, merge_unordered and combine"
+            ),
+            Unreadable::Statement(why) => write!(f, "{why}"),
+            Unreadable::Declined(_) => write!(f, "this column has no such statistic"),
+        }
+    }
+}
+
+impl Error for Unreadable {}
+
+impl From<ParseStatementError> for Unreadable {
+    fn from(why: ParseStatementError) -> Self {
+        Unreadable::Statement(why)
+    }
+}
+
+impl From<Refusal> for Unreadable {
+    fn from(why: Refusal) -> Self {
+        Unreadable::Declined(why)
+    }
+}
+
+// What was declined, if anything was, and the first zone afterwards.
+struct Answer<E: Element<Sum = Measure>> {
+    declined: Option<Refusal>,
+    zone: Zone<E>,
+}
+
+impl<E: Element<Sum = Measure> + fmt::Display> fmt::Display for Answer<E> {
+    fn fmt<W: fmt::Write>(&self, f: &mut fmt::Formatter<W>) -> fmt::Result {
+        if let Some(refusal) = self.declined {
+            write!(f, "{refusal} | ")?;
+        }
+        write!(f, "{}", self.zone)
+    }
+}
+
+// The answer, by the column of the zones.
+enum Reply {
+    Measures(Answer<Measure>),
+    Marks(Answer<Mark>),
+}
+
+impl fmt::Display for Reply {
+    fn fmt<W: fmt::Write>(&self, f: &mut fmt::Formatter<W>) -> fmt::Result {
+        match self {
+            Reply::Measures(answer) => write!(f, "{answer}"),
+            Reply::Marks(answer) => write!(f, "{answer}"),
+        }
+    }
+}
+
+fn read_set<E: Element<Sum = Measure> + FromStr>(text: &str) -> Result<Zone<E>, Unreadable>
 where
     E::Err: Drop,
 {
     let mut zone = Zone::<E>::new();
-    for word in text.split_whitespace() {
-        if word == "-" {
-            continue;
-        }
-        let Some((name, claim)) = word.split_once('=') else {
-            return Err("a statement is NAME=CLAIM");
-        };
-        let Some(stat) = read_stat(name) else {
-            return Err("there is no statistic of that name");
-        };
-        let Some(claim) = read_claim::<E, Measure>(stat, claim) else {
-            return Err("the claim has no value of the statistic's kind");
-        };
-        if zone.set(stat, claim).is_err() {
-            return Err("this column has no such statistic");
-        }
+    for word in text.split_whitespace().filter(|word| *word != "-") {
+        let told = Statement::<E, Measure>::from_str(word)?;
+        zone.set(told.stat, told.claim)?;
     }
     Ok(zone)
 }
 
-fn write_set<E: Element<Sum = Measure> + Display>(
-    line: &mut String,
-    zone: &mut Zone<E>,
-) -> anyhow::Result<()> {
-    if zone.is_empty() {
-        line.push_str("-")?;
-    }
-    for place in 0..9usize {
-        let Some(statement) = zone.tell(place) else {
-            return Ok(());
-        };
-        if place > 0 {
-            line.push_str(" ")?;
-        }
-        let stated = Stated { statement };
-        write!(line, "{stated}")?;
-    }
-    Ok(())
-}
-
-// One request on two sets of a column; an answer, or why it cannot be read.
-fn answer<E: Element<Sum = Measure> + FromStr + Display>(
-    line: &mut String,
+// What a request on two sets of a column comes to.
+fn answer<E: Element<Sum = Measure> + FromStr>(
     request: &str,
     first: &str,
     second: &str,
-) -> anyhow::Result<Option<&'static str>>
+) -> Result<Answer<E>, Unreadable>
 where
     E::Err: Drop,
 {
-    let mut zone = match read_set::<E>(first) {
-        Ok(zone) => zone,
-        Err(why) => return Ok(Some(why)),
-    };
-    let mut other = match read_set::<E>(second) {
-        Ok(zone) => zone,
-        Err(why) => return Ok(Some(why)),
-    };
+    let mut zone = read_set::<E>(first)?;
+    let mut other = read_set::<E>(second)?;
+    let mut declined = None;
     match request {
         "merge_ordered" => zone.merge_ordered(&other),
         "merge_unordered" => zone.merge_unordered(&other),
-        "combine" => {
-            if let Err(refusal) = zone.combine_sets(&mut other) {
-                write!(line, "{refusal} | ")?;
-            }
-        }
-        _ => return Ok(Some("the request is none of merge_ordered, merge_unordered and combine")),
+        "combine" => declined = zone.combine_sets(&mut other).err(),
+        _ => return Err(Unreadable::NoRequest),
     }
-    write_set(line, &mut zone)?;
-    Ok(None)
+    Ok(Answer { declined, zone })
 }
 
-// The answer to a line, or why it cannot be read.
-fn respond(line: &mut String, text: &str) -> anyhow::Result<Option<&'static str>> {
-    let Some((head, sets)) = text.split_once('|') else {
-        return Ok(Some("a request is COLUMN REQUEST | SET | SET"));
-    };
-    let Some((first, second)) = sets.split_once('|') else {
-        return Ok(Some("the second set is missing"));
-    };
+// What a line comes to.
+fn respond(text: &str) -> Result<Reply, Unreadable> {
+    let (head, sets) = text.split_once('|').ok_or(Unreadable::NoSet)?;
+    let (first, second) = sets.split_once('|').ok_or(Unreadable::NoSecondSet)?;
     let mut words = head.split_whitespace();
     let column = words.next().unwrap_or("");
     let request = words.next().unwrap_or("");
     match column {
-        "measure" => answer::<Measure>(line, request, first, second),
-        "mark" => answer::<Mark>(line, request, first, second),
-        _ => Ok(Some("the column is neither measure nor mark")),
+        "measure" => Ok(Reply::Measures(answer(request, first, second)?)),
+        "mark" => Ok(Reply::Marks(answer(request, first, second)?)),
+        _ => Err(Unreadable::NoColumn),
     }
 }
 
-fn run(rt: &HostRuntime) -> anyhow::Result<()> {
+fn main(rt: HostRuntime) -> anyhow::Result<()> {
+    if env::args(&rt)?.skip(1).any(|word| word.as_str() == "--help") {
+        println!(rt; "{HELP}")?;
+        return Ok(());
+    }
     let heap = rt.alloc();
     let mut number = 0u64;
     for text in BufReader::new(heap, rt.stdin())?.lines(heap) {
@@ -134,28 +165,10 @@ fn run(rt: &HostRuntime) -> anyhow::Result<()> {
         if trimmed.is_empty() || trimmed.starts_with('#') {
             continue;
         }
-        let mut line = String::new(heap);
-        match respond(&mut line, trimmed)? {
-            None => println!(rt; "{line}")?,
-            Some(why) => println!(rt; "line {number}: {why}")?,
+        match respond(trimmed) {
+            Ok(reply) => println!(rt; "{reply}")?,
+            Err(why) => println!(rt; "line {number}: {why}")?,
         }
     }
     Ok(())
-}
-
-fn asks_help(rt: &HostRuntime) -> anyhow::Result<bool> {
-    for word in env::args(rt)?.skip(1) {
-        if word.as_str() == "--help" {
-            return Ok(true);
-        }
-    }
-    Ok(false)
-}
-
-fn main(rt: HostRuntime) -> anyhow::Result<()> {
-    if asks_help(&rt)? {
-        println!(rt; "{HELP}")?;
-        return Ok(());
-    }
-    run(&rt)
 }
