@@ -8,7 +8,7 @@ use Rattle.order.proofs.Orders.{Strict, below_strict, above_strict, same_is, sam
 use Rattle.precision.specs.declared.precision.Precision.{Precision}
 use Rattle.precision.specs.declared.precision.Precision.TheVariants.{Exact, Inexact, Absent}
 use Rattle.stat_bound.specs.declared.IntersectionResult.TheVariants.{Value, Empty}
-use Rattle.stat_bound.specs.Bounds.{Meets, IntersectionLaw, UnionLaw, PrecisionAllows, Allows, precision_union, precision_intersection, union_by, intersection_by, lower_union, lower_intersection, upper_union, upper_intersection, LowerAllows, UpperAllows}
+use Rattle.stat_bound.specs.Bounds.{Meets, IntersectionLaw, UnionLaw, PrecisionAllows, Allows, precision_union, precision_intersection, bound_equals, Equates, union_by, intersection_by, lower_union, lower_intersection, upper_union, upper_intersection, LowerAllows, UpperAllows}
 
 -- a result that gives a claim is not empty, since some value is allowed by both sides
 nonempty : {T : Type 0} (allows : Precision T → T → Type 0) (x y c : Precision T) (v : T) → allows x v → allows y v → ((u : T) → allows x u → allows y u → allows c u) → ((u : T) → allows c u → allows x u × allows y u) → Meets allows x y (Value c)
@@ -138,3 +138,13 @@ module _ {T : Type 0} (order : T → T → Ordering) (laws : OrderLaws order) wh
 
   pub upper_unites : UnionLaw (UpperAllows order) (greater order) (upper_union order)
   upper_unites = union_law (above order) (below order) (above_strict order laws)
+
+-- a bound that is said to equal a value allows that value alone, where an exact one allows only its own
+module _ {T : Type 0} (order : T → T → Ordering) (laws : OrderLaws order) (allows : Precision T → T → Type 0) (from : (x v : T) → allows (Exact v) x → x ≡ v) where
+  alone : (c : Precision T) (v : T) → bound_equals order c v ≡ true → (x : T) → allows c x → x ≡ v
+  alone (Exact w) v e x p = from x w p ∙ same_is order laws w v e
+  alone (Inexact w) v e x p = absurd (false≢true e)
+  alone Absent v e x p = absurd (false≢true e)
+
+  pub equates : (c : Precision T) (v : T) (r : Bool) → r ≡ bound_equals order c v → Equates allows (bound_equals order c v) c v r
+  equates c v r e = record { value = e; alone = λ t. alone c v (sym e ∙ t) }
