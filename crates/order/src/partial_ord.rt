@@ -3,17 +3,13 @@ ghost use Rattle.std.specs.Prelude.{◌≡◌, IsSomeAnd, Some};
 ghost use Rattle.order.specs.Order.{lesser, greater, Lowest, Highest};
 
 use crate::ordered::Ordered;
-use std::cmp::Ordering;
 
 // The first if it is below the second, else the second: of equal values the second, which is the same value.
 pub fn partial_min<T: Ordered>(a: T, b: T) -> Option<T>
     ensures value { result ≡ Some (lesser T.Ordered.order a b) }
     ensures lowest { IsSomeAnd result (Lowest T.Ordered.order a b) }
 {
-    match a.compare(b) {
-        Ordering::Less => Some(a),
-        _ => Some(b),
-    }
+    Some(if a.compare(b).is_lt() { a } else { b })
 }
 
 // The first if it is above the second, else the second: of equal values the second, which is the same value.
@@ -21,8 +17,5 @@ pub fn partial_max<T: Ordered>(a: T, b: T) -> Option<T>
     ensures value { result ≡ Some (greater T.Ordered.order a b) }
     ensures highest { IsSomeAnd result (Highest T.Ordered.order a b) }
 {
-    match a.compare(b) {
-        Ordering::Greater => Some(a),
-        _ => Some(b),
-    }
+    Some(if a.compare(b).is_gt() { a } else { b })
 }

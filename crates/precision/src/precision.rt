@@ -1,26 +1,16 @@
 // What is claimed of a statistic: its value exactly, a value that bounds it, or nothing.
 ghost use Rattle.std.specs.Prelude.{◌≡◌, Bool, true, false, ◌∷◌, Some, None, codes};
 ghost use Rattle.std.specs.Fmt.{option_append};
-ghost use Rattle.precision.specs.declared.precision.Precision.TheVariants.{Absent};
 ghost use Rattle.precision.specs.Claims.{inexactly, mapped, value_of, exact_of, inexact_of, is_exact, is_absent, zipped, transposed, Made, Equals, text_of};
 
 use std::fmt;
 
-#[derive(Debug, PartialEq, Eq, Clone, Copy)]
+#[derive(Debug, Default, PartialEq, Eq, Clone, Copy)]
 pub enum Precision<T> {
     Exact(T),
     Inexact(T),
+    #[default]
     Absent,
-}
-
-impl<T> Default for Precision<T> {
-    ghost is_default = { λ c. c ≡ Absent };
-
-    fn default() -> Precision<T>
-        ensures { result ≡ Precision.Absent }
-    {
-        Precision::Absent
-    }
 }
 
 impl<T, E> Precision<Result<T, E>> {
@@ -43,10 +33,7 @@ impl<T: Copy> Precision<T> {
     pub fn to_inexact(&self) -> Self
         ensures { result ≡ inexactly self.now }
     {
-        match *self {
-            Precision::Exact(v) | Precision::Inexact(v) => Precision::Inexact(v),
-            Precision::Absent => Precision::Absent,
-        }
+        (*self).into_inexact()
     }
 }
 
@@ -85,8 +72,7 @@ impl<T> Precision<T> {
         ensures { result ≡ inexactly self }
     {
         match self {
-            Precision::Exact(v) => Precision::Inexact(v),
-            Precision::Inexact(v) => Precision::Inexact(v),
+            Precision::Exact(v) | Precision::Inexact(v) => Precision::Inexact(v),
             Precision::Absent => Precision::Absent,
         }
     }
@@ -150,8 +136,7 @@ impl<T> Precision<T> {
         ensures { result ≡ value_of self }
     {
         match self {
-            Precision::Exact(inner) => Some(inner),
-            Precision::Inexact(inner) => Some(inner),
+            Precision::Exact(inner) | Precision::Inexact(inner) => Some(inner),
             Precision::Absent => None,
         }
     }
@@ -175,9 +160,6 @@ impl<T: PartialEq> Precision<T> {
     pub fn eq_value(&self, other: &T) -> bool
         ensures { Equals (λ x y r. r ≡ T.eq x y) self.now other.now result }
     {
-        match self {
-            Precision::Exact(v) => v == other,
-            _ => false,
-        }
+        matches!(self, Precision::Exact(v) if v == other)
     }
 }
