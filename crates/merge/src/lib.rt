@@ -33,7 +33,7 @@ pub trait MergeSets {
 
 // Statistic after statistic, by rising number, each on the entries as changed so far.
 impl<E: Element> MergeSets for StatsSet<E, E::Sum> {
-    ghost merges = { λ in_order a b c. Merges (column E.Ordered.order E.Sum.Ordered.order E.Element.sums) in_order (entries E.Element.sums.has_sums a) (entries E.Element.sums.has_sums b) (entries E.Element.sums.has_sums c) };
+    ghost merges = { λ in_order a b c. Merges (column E.Ordered.order E.Sum.Ordered.order E.Element.sums) in_order (entries a) (entries b) (entries c) };
 
     fn merge_ordered(&mut self, other: &Self) {
         merge_is_constant(self, other);
@@ -61,7 +61,7 @@ impl<E: Element> MergeSets for StatsSet<E, E::Sum> {
 }
 
 fn merge_min<E: Element>(values: &mut StatsSet<E, E::Sum>, other: &StatsSet<E, E::Sum>)
-    ensures { entries E.Element.sums.has_sums values.new ≡ put (entries E.Element.sums.has_sums values.old) Min (rule (column E.Ordered.order E.Sum.Ordered.order E.Element.sums) true (entries E.Element.sums.has_sums values.old) (entries E.Element.sums.has_sums other.now) Min) }
+    ensures { entries values.new ≡ put (entries values.old) Min (rule (column E.Ordered.order E.Sum.Ordered.order E.Element.sums) true (entries values.old) (entries other.now) Min) }
 {
     let claim = leaves::merge_min(
         element_in(values.get(Stat::Min)),
@@ -71,7 +71,7 @@ fn merge_min<E: Element>(values: &mut StatsSet<E, E::Sum>, other: &StatsSet<E, E
 }
 
 fn merge_max<E: Element>(values: &mut StatsSet<E, E::Sum>, other: &StatsSet<E, E::Sum>)
-    ensures { entries E.Element.sums.has_sums values.new ≡ put (entries E.Element.sums.has_sums values.old) Max (rule (column E.Ordered.order E.Sum.Ordered.order E.Element.sums) true (entries E.Element.sums.has_sums values.old) (entries E.Element.sums.has_sums other.now) Max) }
+    ensures { entries values.new ≡ put (entries values.old) Max (rule (column E.Ordered.order E.Sum.Ordered.order E.Element.sums) true (entries values.old) (entries other.now) Max) }
 {
     let claim = leaves::merge_max(
         element_in(values.get(Stat::Max)),
@@ -81,14 +81,14 @@ fn merge_max<E: Element>(values: &mut StatsSet<E, E::Sum>, other: &StatsSet<E, E
 }
 
 fn merge_sum<E: Element>(values: &mut StatsSet<E, E::Sum>, other: &StatsSet<E, E::Sum>)
-    ensures { entries E.Element.sums.has_sums values.new ≡ put (entries E.Element.sums.has_sums values.old) Total (rule (column E.Ordered.order E.Sum.Ordered.order E.Element.sums) true (entries E.Element.sums.has_sums values.old) (entries E.Element.sums.has_sums other.now) Total) }
+    ensures { entries values.new ≡ put (entries values.old) Total (rule (column E.Ordered.order E.Sum.Ordered.order E.Element.sums) true (entries values.old) (entries other.now) Total) }
 {
     let claim = leaves::merge_sum::<E>(sum_in(values.get(Stat::Sum)), sum_in(other.get(Stat::Sum)));
     let _ = values.set(Stat::Sum, of_sum(claim));
 }
 
 fn merge_is_constant<E: Element>(values: &mut StatsSet<E, E::Sum>, other: &StatsSet<E, E::Sum>)
-    ensures { entries E.Element.sums.has_sums values.new ≡ put (entries E.Element.sums.has_sums values.old) IsConstant (rule (column E.Ordered.order E.Sum.Ordered.order E.Element.sums) true (entries E.Element.sums.has_sums values.old) (entries E.Element.sums.has_sums other.now) IsConstant) }
+    ensures { entries values.new ≡ put (entries values.old) IsConstant (rule (column E.Ordered.order E.Sum.Ordered.order E.Element.sums) true (entries values.old) (entries other.now) IsConstant) }
 {
     let mine = flag_in(values.get(Stat::IsConstant));
     let others = flag_in(other.get(Stat::IsConstant));
@@ -102,13 +102,13 @@ fn merge_is_constant<E: Element>(values: &mut StatsSet<E, E::Sum>, other: &Stats
 }
 
 fn merge_is_sorted<E: Element>(values: &mut StatsSet<E, E::Sum>, other: &StatsSet<E, E::Sum>)
-    ensures { entries E.Element.sums.has_sums values.new ≡ put (entries E.Element.sums.has_sums values.old) IsSorted (rule (column E.Ordered.order E.Sum.Ordered.order E.Element.sums) true (entries E.Element.sums.has_sums values.old) (entries E.Element.sums.has_sums other.now) IsSorted) }
+    ensures { entries values.new ≡ put (entries values.old) IsSorted (rule (column E.Ordered.order E.Sum.Ordered.order E.Element.sums) true (entries values.old) (entries other.now) IsSorted) }
 {
     merge_sortedness_stat(values, other, Stat::IsSorted, Comparison::Le);
 }
 
 fn merge_is_strict_sorted<E: Element>(values: &mut StatsSet<E, E::Sum>, other: &StatsSet<E, E::Sum>)
-    ensures { entries E.Element.sums.has_sums values.new ≡ put (entries E.Element.sums.has_sums values.old) IsStrictSorted (rule (column E.Ordered.order E.Sum.Ordered.order E.Element.sums) true (entries E.Element.sums.has_sums values.old) (entries E.Element.sums.has_sums other.now) IsStrictSorted) }
+    ensures { entries values.new ≡ put (entries values.old) IsStrictSorted (rule (column E.Ordered.order E.Sum.Ordered.order E.Element.sums) true (entries values.old) (entries other.now) IsStrictSorted) }
 {
     merge_sortedness_stat(values, other, Stat::IsStrictSorted, Comparison::Lt);
 }
@@ -121,7 +121,7 @@ fn merge_sortedness_stat<E: Element>(
     comparison: Comparison,
 )
     requires { (b : Bool) → takes {V = E} {S = E.Sum} E.Element.sums.has_sums stat (Flag b) ≡ true }
-    ensures { entries E.Element.sums.has_sums values.new ≡ put (entries E.Element.sums.has_sums values.old) stat (mapped Flag (sorted_rule (in_step comparison E.Ordered.order) (flag_claim (got (entries E.Element.sums.has_sums values.old) stat)) (flag_claim (got (entries E.Element.sums.has_sums other.now) stat)) (element_claim (got (entries E.Element.sums.has_sums values.old) Max)) (element_claim (got (entries E.Element.sums.has_sums other.now) Min)))) }
+    ensures { entries values.new ≡ put (entries values.old) stat (mapped Flag (sorted_rule (in_step comparison E.Ordered.order) (flag_claim (got (entries values.old) stat)) (flag_claim (got (entries other.now) stat)) (element_claim (got (entries values.old) Max)) (element_claim (got (entries other.now) Min)))) }
 {
     let mine = flag_in(values.get(stat));
     let others = flag_in(other.get(stat));
@@ -136,13 +136,13 @@ fn merge_sortedness_stat<E: Element>(
 }
 
 fn merge_null_count<E: Element>(values: &mut StatsSet<E, E::Sum>, other: &StatsSet<E, E::Sum>)
-    ensures { entries E.Element.sums.has_sums values.new ≡ put (entries E.Element.sums.has_sums values.old) NullCount (rule (column E.Ordered.order E.Sum.Ordered.order E.Element.sums) true (entries E.Element.sums.has_sums values.old) (entries E.Element.sums.has_sums other.now) NullCount) }
+    ensures { entries values.new ≡ put (entries values.old) NullCount (rule (column E.Ordered.order E.Sum.Ordered.order E.Element.sums) true (entries values.old) (entries other.now) NullCount) }
 {
     merge_sum_stat(values, Stat::NullCount, other);
 }
 
 fn merge_nan_count<E: Element>(values: &mut StatsSet<E, E::Sum>, other: &StatsSet<E, E::Sum>)
-    ensures { entries E.Element.sums.has_sums values.new ≡ put (entries E.Element.sums.has_sums values.old) NaNCount (rule (column E.Ordered.order E.Sum.Ordered.order E.Element.sums) true (entries E.Element.sums.has_sums values.old) (entries E.Element.sums.has_sums other.now) NaNCount) }
+    ensures { entries values.new ≡ put (entries values.old) NaNCount (rule (column E.Ordered.order E.Sum.Ordered.order E.Element.sums) true (entries values.old) (entries other.now) NaNCount) }
 {
     merge_sum_stat(values, Stat::NaNCount, other);
 }
@@ -151,7 +151,7 @@ fn merge_uncompressed_size_in_bytes<E: Element>(
     values: &mut StatsSet<E, E::Sum>,
     other: &StatsSet<E, E::Sum>,
 )
-    ensures { entries E.Element.sums.has_sums values.new ≡ put (entries E.Element.sums.has_sums values.old) UncompressedSizeInBytes (rule (column E.Ordered.order E.Sum.Ordered.order E.Element.sums) true (entries E.Element.sums.has_sums values.old) (entries E.Element.sums.has_sums other.now) UncompressedSizeInBytes) }
+    ensures { entries values.new ≡ put (entries values.old) UncompressedSizeInBytes (rule (column E.Ordered.order E.Sum.Ordered.order E.Element.sums) true (entries values.old) (entries other.now) UncompressedSizeInBytes) }
 {
     merge_sum_stat(values, Stat::UncompressedSizeInBytes, other);
 }
@@ -163,7 +163,7 @@ fn merge_sum_stat<E: Element>(
     other: &StatsSet<E, E::Sum>,
 )
     requires { (n : ℕ) → takes {V = E} {S = E.Sum} E.Element.sums.has_sums stat (Count n) ≡ true }
-    ensures { entries E.Element.sums.has_sums values.new ≡ put (entries E.Element.sums.has_sums values.old) stat (mapped Count (count_rule (count_claim (got (entries E.Element.sums.has_sums values.old) stat)) (count_claim (got (entries E.Element.sums.has_sums other.now) stat)))) }
+    ensures { entries values.new ≡ put (entries values.old) stat (mapped Count (count_rule (count_claim (got (entries values.old) stat)) (count_claim (got (entries other.now) stat)))) }
 {
     let claim = leaves::merge_count(count_in(values.get(stat)), count_in(other.get(stat)));
     let _ = values.set(stat, of_count(claim));

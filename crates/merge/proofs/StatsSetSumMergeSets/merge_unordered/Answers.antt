@@ -9,10 +9,9 @@ use Rattle.merge.proofs.StatsSetSumMergeSets.merge_unordered.Goals as goal
 
 pub returns : goal.returns
 returns g c =
-    let sums = g.E.Element.sums.has_sums in
     let k = column g.E.Ordered.order g.E.Sum.Ordered.order g.E.Element.sums in
     let laws : ColumnLaws k = record { ordered = g.met.E.Ordered.ordered; sums_ordered = g.met.E.Sum.Ordered.ordered; narrow = g.met.E.Element.narrow; summed = g.met.E.Element.summed } in
-    let b = entries sums c.args.other.now in
-    merge_owed k laws false (entries sums c.args.self.now) b _ (set_proper sums c.args.self.now).settable
-    (steps_done (λ a s. put a s (rule k false a b s)) (entries sums c.args.self.now) _ _ _ _ _ _ _ _ _
+    let b = entries c.args.other.now in
+    merge_owed k laws false (entries c.args.self.now) b _ (set_proper c.args.self.now).settable
+    (steps_done (λ a s. put a s (rule k false a b s)) (entries c.args.self.now) _ _ _ _ _ _ _ _ _
     c.merge_is_constant.ensures c.clear.ensures.after c.clear-2.ensures.after c.merge_max.ensures c.merge_min.ensures c.merge_sum.ensures c.merge_null_count.ensures c.merge_uncompressed_size_in_bytes.ensures c.merge_nan_count.ensures)
