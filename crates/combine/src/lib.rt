@@ -38,7 +38,7 @@ pub trait CombineSets<E: Element> {
 }
 
 impl<E: Element> CombineSets<E> for StatsSet<E, E::Sum> {
-    ghost combines = { λ told x z r. Combines (column E.Ordered.order E.Sum.Ordered.order E.Element.sums) told (entries E.Element.sums.has_sums x) (entries E.Element.sums.has_sums z) r };
+    ghost combines = { λ told x z r. Combines (column E.Ordered.order E.Sum.Ordered.order E.Element.sums) told (entries x) (entries z) r };
 
     fn combine_sets<P: StatsProvider<E>>(&mut self, other: &mut P) -> Result<(), Refusal> {
         let len = other.len();

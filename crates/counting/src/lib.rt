@@ -19,7 +19,7 @@ mod tally;
 // The statistics of the rows by rising number, each with its exact claim. Without an element there is no greatest and no
 // least, where a running total does not fit no sum, and at 2^64 or more no size.
 pub fn count<E: Element>(rows: &[Option<E>]) -> StatsSet<E, E::Sum>
-    ensures { Counts (column E.Ordered.order E.Sum.Ordered.order E.Element.sums) rows.now (entries E.Element.sums.has_sums result) }
+    ensures { Counts (column E.Ordered.order E.Sum.Ordered.order E.Element.sums) rows.now (entries result) }
 {
     tallied(rows).set(rows.len() as u64)
 }

@@ -89,7 +89,7 @@ impl<E: Element> Tally<E, E::Sum> {
 
     // The set of the nine claims, for so many rows.
     pub(crate) fn set(self, rows: u64) -> StatsSet<E, E::Sum>
-        ensures { entries E.Element.sums.has_sums result ≡ all_put (tally_claim E.Ordered.order E.Element.sums self rows) all_stats }
+        ensures { entries result ≡ all_put (tally_claim E.Ordered.order E.Element.sums self rows) all_stats }
     {
         let mut set = StatsSet::<E, E::Sum>::new();
         for stat in Stat::all() {

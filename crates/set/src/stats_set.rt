@@ -1,5 +1,5 @@
 // The set itself. What ties its two parts together holds of every set there is.
-ghost use Rattle.std.specs.Prelude.{◌≡◌, true, not};
+ghost use Rattle.std.specs.Prelude.{◌≡◌, true, false, not};
 ghost use Rattle.precision.specs.Claims.{is_absent};
 ghost use Rattle.stat.specs.declared.Stat.{Stat as Statistic};
 ghost use Rattle.listing.specs.Listed.{listed};
@@ -7,23 +7,26 @@ ghost use Rattle.claims.specs.Entries.{claim_in, has_stat, distinct};
 
 use claims::Claims;
 use listing::Listing;
+use rules::element::Element;
 use stat::Stat;
 use std::alloc::AllocError;
 
 pub mod methods;
 
-pub struct StatsSet<E, S> {
+pub struct StatsSet<E: Element<Sum = S>, S: Copy> {
     claims: Claims<E, S>,
     order: Listing<Stat, 9>,
     // no statistic is listed twice
     ghost once: { distinct (listed order) ≡ true },
     // those are listed of which there is a claim
     ghost present: { (s : Statistic) → has_stat (listed order) s ≡ not (is_absent (claim_in claims s)) },
+    // a sum stands only where there are sums
+    ghost summed: { is_absent claims.sum ≡ false → E.Element.sums.has_sums ≡ true },
 }
 
-impl<E: Copy, S: Copy> Copy for StatsSet<E, S> {}
+impl<E: Element<Sum = S>, S: Copy> Copy for StatsSet<E, S> {}
 
-impl<E: Copy, S: Copy> Clone for StatsSet<E, S> {
+impl<E: Element<Sum = S>, S: Copy> Clone for StatsSet<E, S> {
     ghost is_clone = { λ x y. y ≡ x };
 
     fn clone(&self) -> Result<Self, AllocError> {

@@ -7,14 +7,14 @@ ghost use Rattle.listing.specs.Listed.{listed};
 ghost use Rattle.listing.specs.Marks.{marked};
 ghost use Rattle.precision.specs.Claims.{is_absent};
 ghost use Rattle.refusal.specs.Refusals.{refused, declined};
-ghost use Rattle.claims.specs.Entries.{claim_in, has_stat, counts};
+ghost use Rattle.claims.specs.Entries.{claim_in, has_stat};
 ghost use Rattle.rules.specs.Column.{column};
 ghost use Rattle.rules.specs.Rows.{Row};
 ghost use Rattle.rules.specs.Truth.{AllHold};
 ghost use Rattle.rules.specs.Claims.{takes, may_set};
 ghost use Rattle.rules.specs.Sets.{got, put, without, retained};
 ghost use Rattle.set.specs.Viewed.{entries};
-ghost use Rattle.claims.proofs.Views.{shown_proper};
+ghost use Rattle.claims.proofs.Views.{entries_proper};
 
 use super::StatsSet;
 use claims::Claims;
@@ -29,7 +29,7 @@ use stat::Stat;
 impl<E: Element> StatsSet<E, E::Sum> {
     // A set with no entry.
     pub fn new() -> Self
-        ensures { entries E.Element.sums.has_sums result ≡ [] }
+        ensures { entries result ≡ [] }
     {
         StatsSet {
             claims: Claims::none(),
@@ -40,7 +40,7 @@ impl<E: Element> StatsSet<E, E::Sum> {
     // A set with one statement, or none where the claim is absent. Declines a value of another kind.
     pub fn of(stat: Stat, claim: Precision<StatValue<E, E::Sum>>) -> Result<Self, Refusal>
         ensures answer { refused result ≡ (if may_set E.Element.sums.has_sums stat claim then Nothing else declined 1 Nothing) }
-        ensures made { IfOk result (λ s. entries E.Element.sums.has_sums s ≡ put [] stat claim) }
+        ensures made { IfOk result (λ s. entries s ≡ put [] stat claim) }
     {
         let mut values = StatsSet::new();
         values.set(stat, claim)?;
@@ -49,13 +49,13 @@ impl<E: Element> StatsSet<E, E::Sum> {
 
     // How many entries there are.
     pub fn len(&self) -> usize
-        ensures { result ≡ length (entries E.Element.sums.has_sums self.now) }
+        ensures { result ≡ length (entries self.now) }
     {
-        self.shown().len()
+        self.order.len()
     }
 
     pub fn is_empty(&self) -> bool
-        ensures { result ≡ (length (entries E.Element.sums.has_sums self.now) == 0) }
+        ensures { result ≡ (length (entries self.now) == 0) }
     {
         self.len() == 0
     }
@@ -63,7 +63,7 @@ impl<E: Element> StatsSet<E, E::Sum> {
     // Replaces the claim in place, or adds it last; an absent one clears. Declines a value of another kind.
     pub fn set(&mut self, stat: Stat, claim: Precision<StatValue<E, E::Sum>>) -> Result<(), Refusal>
         ensures answer { refused result ≡ (if may_set E.Element.sums.has_sums stat claim then Nothing else declined 1 Nothing) }
-        ensures after { entries E.Element.sums.has_sums self.new ≡ (if may_set E.Element.sums.has_sums stat claim then put (entries E.Element.sums.has_sums self.old) stat claim else entries E.Element.sums.has_sums self.old) }
+        ensures after { entries self.new ≡ (if may_set E.Element.sums.has_sums stat claim then put (entries self.old) stat claim else entries self.old) }
     {
         if !may_set::<E>(stat, claim) {
             return Err(Refusal::WrongKind);
@@ -80,7 +80,7 @@ impl<E: Element> StatsSet<E, E::Sum> {
     fn put(&mut self, stat: Stat, claim: Precision<StatValue<E, E::Sum>>)
         requires may { may_set E.Element.sums.has_sums stat claim ≡ true }
         requires there { is_absent claim ≡ false }
-        ensures { entries E.Element.sums.has_sums self.new ≡ put (entries E.Element.sums.has_sums self.old) stat claim }
+        ensures { entries self.new ≡ put (entries self.old) stat claim }
     {
         let order = self.order_with(stat);
         let mut claims = self.claims;
@@ -101,23 +101,23 @@ impl<E: Element> StatsSet<E, E::Sum> {
 
     // Removes the entry of a statistic; the others keep their order, and what was true stays true.
     pub fn clear(&mut self, stat: Stat)
-        ensures after { entries E.Element.sums.has_sums self.new ≡ without (entries E.Element.sums.has_sums self.old) stat }
-        ensures truth { (rows : List (Row E)) → AllHold (column E.Ordered.order E.Sum.Ordered.order E.Element.sums) rows (entries E.Element.sums.has_sums self.old) → AllHold (column E.Ordered.order E.Sum.Ordered.order E.Element.sums) rows (entries E.Element.sums.has_sums self.new) }
+        ensures after { entries self.new ≡ without (entries self.old) stat }
+        ensures truth { (rows : List (Row E)) → AllHold (column E.Ordered.order E.Sum.Ordered.order E.Element.sums) rows (entries self.old) → AllHold (column E.Ordered.order E.Sum.Ordered.order E.Element.sums) rows (entries self.new) }
     {
         self.keep(&all_but(stat));
     }
 
     // Removes the entries that are not named; the others keep their order, and what was true stays true.
     pub fn retain_only(&mut self, stats: &[Stat])
-        ensures after { entries E.Element.sums.has_sums self.new ≡ retained (has_stat stats.now) (entries E.Element.sums.has_sums self.old) }
-        ensures truth { (rows : List (Row E)) → AllHold (column E.Ordered.order E.Sum.Ordered.order E.Element.sums) rows (entries E.Element.sums.has_sums self.old) → AllHold (column E.Ordered.order E.Sum.Ordered.order E.Element.sums) rows (entries E.Element.sums.has_sums self.new) }
+        ensures after { entries self.new ≡ retained (has_stat stats.now) (entries self.old) }
+        ensures truth { (rows : List (Row E)) → AllHold (column E.Ordered.order E.Sum.Ordered.order E.Element.sums) rows (entries self.old) → AllHold (column E.Ordered.order E.Sum.Ordered.order E.Element.sums) rows (entries self.new) }
     {
         self.keep(&only(stats));
     }
 
     // Keeps the entries that are marked, by number.
     fn keep(&mut self, keep: &[bool; 9])
-        ensures { entries E.Element.sums.has_sums self.new ≡ retained (marked keep.now) (entries E.Element.sums.has_sums self.old) }
+        ensures { entries self.new ≡ retained (marked keep.now) (entries self.old) }
     {
         let mut claims = self.claims;
         let mut order = self.order;
@@ -128,45 +128,28 @@ impl<E: Element> StatsSet<E, E::Sum> {
 
     // The claim of a statistic, absent where there is none.
     pub fn get(&self, stat: Stat) -> Precision<StatValue<E, E::Sum>>
-        ensures { result ≡ got (entries E.Element.sums.has_sums self.now) stat }
+        ensures { result ≡ got (entries self.now) stat }
     {
-        if counted::<E>(stat) {
-            self.claims.claim(stat)
-        } else {
-            Precision::Absent
-        }
-    }
-
-    // The statistics of the entries, in order.
-    fn shown(&self) -> Listing<Stat, 9>
-        ensures { listed result ≡ filter (counts E.Element.sums.has_sums) (listed self.now.order) }
-    {
-        let mut order = self.order;
-        if !E::HAS_SUMS && !self.claims.sum.is_absent() {
-            order.retain(&all_but(Stat::Sum));
-        }
-        order
+        self.claims.claim(stat)
     }
 }
 
 // A set tells its entries in order.
 impl<E: Element> StatsProvider<E> for StatsSet<E, E::Sum> {
-    ghost told = { λ s. entries E.Element.sums.has_sums s };
+    ghost told = { λ s. entries s };
 
-    ghost proper = { λ s. shown_proper E.Element.sums.has_sums s.claims (listed s.order) (s.once, s.present) };
+    ghost proper = { λ s. entries_proper E.Element.sums.has_sums s.claims (listed s.order) (record { once = s.once; present = s.present; summed = s.summed }) };
 
     fn len(&mut self) -> usize {
         StatsSet::len(self)
     }
 
     fn tell(&mut self, place: usize) -> Option<Statement<E, E::Sum>> {
-        match self.shown().get(place) {
-            Some(stat) => Some(Statement {
-                stat,
-                claim: self.claims.claim(stat),
-            }),
-            None => None,
-        }
+        let stat = self.order.get(place)?;
+        Some(Statement {
+            stat,
+            claim: self.claims.claim(stat),
+        })
     }
 }
 
@@ -197,13 +180,6 @@ fn is_kind<E: Element>(stat: Stat, value: StatValue<E, E::Sum>) -> bool
             StatValue::Count(_)
         ),
     }
-}
-
-// Whether the statistic counts: a sum only where there are sums.
-fn counted<E: Element>(stat: Stat) -> bool
-    ensures { result ≡ counts E.Element.sums.has_sums stat }
-{
-    E::HAS_SUMS || !stat.same(Stat::Sum)
 }
 
 // Every statistic is marked but one.
