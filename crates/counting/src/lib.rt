@@ -4,7 +4,7 @@ ghost use Rattle.std.specs.Prelude.{◌≡◌, fold};
 ghost use Rattle.rules.specs.Column.{column};
 ghost use Rattle.rules.specs.Counting.{counted};
 ghost use Rattle.rules.proofs.Counted.{counted_proper};
-ghost use Rattle.set.specs.Viewed.{entries};
+ghost use Rattle.set.specs.Viewed.{column_of, entries};
 ghost use Rattle.counting.specs.Counted.{Counts};
 ghost use Rattle.counting.specs.Tallied.{fresh, with_row};
 
@@ -19,7 +19,7 @@ mod tally;
 // The statistics of the rows by rising number, each with its exact claim. Without an element there is no greatest and no
 // least, where a running total does not fit no sum, and at 2^64 or more no size.
 pub fn count<E: Element>(rows: &[Option<E>]) -> StatsSet<E, E::Sum>
-    ensures { Counts (column E.Ordered.order E.Sum.Ordered.order E.Element.sums) rows.now (entries result) }
+    ensures { Counts (column_of result) rows.now (entries result) }
 {
     tallied(rows).set(rows.len() as u64)
 }

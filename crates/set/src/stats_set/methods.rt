@@ -8,12 +8,11 @@ ghost use Rattle.listing.specs.Marks.{marked};
 ghost use Rattle.precision.specs.Claims.{is_absent};
 ghost use Rattle.refusal.specs.Refusals.{refused, declined};
 ghost use Rattle.claims.specs.Entries.{claim_in, has_stat};
-ghost use Rattle.rules.specs.Column.{column};
 ghost use Rattle.rules.specs.Rows.{Row};
 ghost use Rattle.rules.specs.Truth.{AllHold};
 ghost use Rattle.rules.specs.Claims.{takes, may_set};
 ghost use Rattle.rules.specs.Sets.{got, put, without, retained};
-ghost use Rattle.set.specs.Viewed.{entries};
+ghost use Rattle.set.specs.Viewed.{column_of, entries};
 ghost use Rattle.claims.proofs.Views.{entries_proper};
 
 use super::StatsSet;
@@ -102,7 +101,7 @@ impl<E: Element> StatsSet<E, E::Sum> {
     // Removes the entry of a statistic; the others keep their order, and what was true stays true.
     pub fn clear(&mut self, stat: Stat)
         ensures after { entries self.new ≡ without (entries self.old) stat }
-        ensures truth { (rows : List (Row E)) → AllHold (column E.Ordered.order E.Sum.Ordered.order E.Element.sums) rows (entries self.old) → AllHold (column E.Ordered.order E.Sum.Ordered.order E.Element.sums) rows (entries self.new) }
+        ensures truth { (rows : List (Row E)) → AllHold (column_of self.old) rows (entries self.old) → AllHold (column_of self.new) rows (entries self.new) }
     {
         self.keep(&all_but(stat));
     }
@@ -110,7 +109,7 @@ impl<E: Element> StatsSet<E, E::Sum> {
     // Removes the entries that are not named; the others keep their order, and what was true stays true.
     pub fn retain_only(&mut self, stats: &[Stat])
         ensures after { entries self.new ≡ retained (has_stat stats.now) (entries self.old) }
-        ensures truth { (rows : List (Row E)) → AllHold (column E.Ordered.order E.Sum.Ordered.order E.Element.sums) rows (entries self.old) → AllHold (column E.Ordered.order E.Sum.Ordered.order E.Element.sums) rows (entries self.new) }
+        ensures truth { (rows : List (Row E)) → AllHold (column_of self.old) rows (entries self.old) → AllHold (column_of self.new) rows (entries self.new) }
     {
         self.keep(&only(stats));
     }
