@@ -1,6 +1,5 @@
-use Rattle.std.proofs.Common.{◌<◌, ◌≤◌, length, ap, refl, sym, subst}
+use Rattle.std.proofs.Common.{◌<◌, ◌≤◌, length, ap, sym, subst}
 use Rattle.stat.specs.declared.Stat.TheVariants.{IsConstant}
-use Rattle.stat.specs.Stats.{all_stats}
 use Rattle.rules.specs.Column.{column, ColumnLaws}
 use Rattle.rules.specs.Merging.{merged_over, merged}
 use Rattle.set.specs.Viewed.{entries}
@@ -18,8 +17,7 @@ loop-stat-preserved g c =
     let k = column g.E.Ordered.order g.E.Sum.Ordered.order g.E.Element.sums in
     let ss = c.all-stat-items.result in
     let i = c.loop-stat.stat-index in
-    let below : i < length ss = subst (λ l. i < length l) (sym c.all-stat-items.ensures) c.loop-stat-test.true in
-    (
+    let below : i < length ss = subst (λ l. i < length l) (sym c.all-stat-items.ensures) c.loop-stat-test.true in (
       c.all-stat-items.ensures,
       merged_more k c.args.in_order (entries c.args.other.now) ss i IsConstant c.merged-claim.result (entries c.loop-stat.values) _ _ below (set_proper c.loop-stat.values).settable c.loop-stat.invariant.1 c.merged-claim.ensures c.set.ensures.after,
     )
