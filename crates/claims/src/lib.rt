@@ -76,7 +76,7 @@ impl<E: Copy, S: Copy> Claims<E, S> {
         }
     }
 
-    // Only the claims that are marked, by number.
+    // Only the claims that are marked, by number. Marks, and no closure, which would have to be required to be callable.
     pub fn keep(&mut self, keep: &[bool; 9])
         ensures { self.new ≡ kept_claims keep.now self.old }
     {

@@ -19,6 +19,7 @@ pub struct Measure {
     ghost held: { mag value < 2 ^ 63 },
 }
 
+// By hand, since it is not derived over a ghost field.
 impl Clone for Measure {
     ghost is_clone = { λ x y. y ≡ x };
 

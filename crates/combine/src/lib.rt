@@ -41,6 +41,7 @@ impl<E: Element> CombineSets<E> for StatsSet<E, E::Sum> {
     ghost combines = { λ told x z r. Combines (column_of x) told (entries x) (entries z) r };
 
     fn combine_sets<P: StatsProvider<E>>(&mut self, other: &mut P) -> Result<(), Refusal> {
+        // a provider tells by place
         let len = other.len();
         for place in 0..len {
             let Some(told) = other.tell(place) else {
@@ -55,7 +56,8 @@ impl<E: Element> CombineSets<E> for StatsSet<E, E::Sum> {
     }
 }
 
-// The claim that a set has of a statistic after one more statement of it; none where the two contradict each other.
+// The claim that a set has of a statistic after one more statement of it; none where the two contradict each other. The
+// column by its parts: no set stands here to take it from.
 fn joined<E: Element>(
     mine: Precision<StatValue<E, E::Sum>>,
     told: Statement<E, E::Sum>,

@@ -24,7 +24,7 @@ pub fn count<E: Element>(rows: &[Option<E>]) -> StatsSet<E, E::Sum>
     tallied(rows).set(rows.len() as u64)
 }
 
-// What counting keeps after the last row.
+// What counting keeps after the last row. A `for`, since each row is fed to the nine in turn.
 fn tallied<E: Element>(rows: &[Option<E>]) -> Tally<E, E::Sum>
     ensures { result ≡ fold (with_row E.Ordered.order E.Element.sums) (fresh E.Element.sums) rows.now }
 {
@@ -49,6 +49,7 @@ impl<'a, E: Element> LiveCount<'a, E> {
     }
 }
 
+// The column by its parts: no set stands here to take it from.
 impl<'a, E: Element> StatsProvider<E> for LiveCount<'a, E> {
     ghost told = { λ p. counted (column E.Ordered.order E.Sum.Ordered.order E.Element.sums) p.rows.now };
 

@@ -14,7 +14,8 @@ use rules::element::Element;
 use stat_bound::StatBound;
 use upper_bound::UpperBound;
 
-// How the greatest of the first part must compare with the least of the second for the whole to be sorted.
+// How the greatest of the first part must compare with the least of the second for the whole to be sorted. Named, and no
+// closure: who takes a closure requires of its callers that it may be called, and no public function here requires anything.
 #[derive(Clone, Copy)]
 pub enum Comparison {
     // at most: elements never fall

@@ -14,6 +14,7 @@ pub struct Listing<T, const CAP: usize> {
     ghost fits: { len ≤ CAP },
 }
 
+// By hand, since neither is derived over a ghost field.
 impl<T: Copy, const CAP: usize> Copy for Listing<T, CAP> {}
 
 impl<T: Copy, const CAP: usize> Clone for Listing<T, CAP> {

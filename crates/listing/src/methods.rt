@@ -53,7 +53,8 @@ impl<T: Copy, const CAP: usize> Listing<T, CAP> {
 }
 
 impl Listing<Stat, 9> {
-    // Only those that are marked, by number; they keep their order.
+    // Only those that are marked, by number; they keep their order. Marks, and no closure, which would have to be required to be
+    // callable.
     pub fn retain(&mut self, keep: &[bool; 9])
         ensures { listed self.new ≡ filter (marked keep.now) (listed self.old) }
     {

@@ -94,14 +94,15 @@ impl<T: Ordered> Side<T> for LowerBound<T> {
 }
 
 impl<T: Ordered> LowerBound<T> {
-    // Only an exact bound equals a value.
+    // Only an exact bound equals a value. A method, since `PartialEq` compares values of one type.
     pub fn eq_value(&self, other: &T) -> bool
         ensures { Equates (LowerAllows T.order) (bound_equals T.order self.now.0 other.now) self.now.0 other.now result }
     {
         Self::equals(self.0, *other)
     }
 
-    // An exact bound compares as its value does; an inexact one can only be known to be above a value.
+    // An exact bound compares as its value does; an inexact one can only be known to be above a value. A method, since
+    // `PartialOrd` compares values of one type.
     pub fn partial_cmp_value(&self, other: &T) -> Option<Ordering>
         ensures { Compares T.order (LowerAllows T.order) (lower_compared T.order self.now.0 other.now) self.now.0 other.now result }
     {

@@ -47,7 +47,7 @@ impl<T> Precision<T> {
         Precision::Exact(T::from(s))
     }
 
-    // An inexact claim of what the value converts to.
+    // An inexact claim of what the value converts to. It and `exact` differ in the variant, which no parameter can be.
     pub fn inexact<S>(s: S) -> Precision<T>
     where
         T: From<S>,
@@ -89,7 +89,7 @@ impl<T> Precision<T> {
         }
     }
 
-    // The value of an inexact claim.
+    // The value of an inexact claim. It and `as_exact` differ in the variant that they name, which no parameter can be.
     pub fn as_inexact(self) -> Option<T>
     where
         T: Drop,
@@ -156,7 +156,7 @@ impl<T: fmt::Display> fmt::Display for Precision<T> {
 }
 
 impl<T: PartialEq> Precision<T> {
-    // Only an exact claim equals a value.
+    // Only an exact claim equals a value. A method, since `PartialEq` compares values of one type.
     pub fn eq_value(&self, other: &T) -> bool
         ensures { Equals (λ x y r. r ≡ T.eq x y) self.now other.now result }
     {

@@ -30,7 +30,8 @@ pub trait Question<E: Element> {
         ensures answer { result ≡ skips self.old (entries claims.now) }
         ensures steady { (hits self.new ≡ hits self.old) × (skips self.new ≡ skips self.old) };
 
-    // Of any rows of which a set's claims are true, none matches where it says skip.
+    // Of any rows of which a set's claims are true, none matches where it says skip. The column by its parts:
+    // no set stands here to take it from.
     ghost honest: { (q : Self) → Honest (column E.Ordered.order E.Sum.Ordered.order E.Element.sums) (hits q) (skips q) };
 }
 

@@ -28,6 +28,7 @@ pub enum Refusal {
 }
 
 impl Refusal {
+    // Named, since `u8::from(refusal)` would not say which number it is.
     pub fn number(self) -> u8
         ensures { result ≡ refusal_number self }
     {

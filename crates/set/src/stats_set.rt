@@ -24,6 +24,7 @@ pub struct StatsSet<E: Element<Sum = S>, S: Copy> {
     ghost summed: { is_absent claims.sum ≡ false → E.Element.sums.has_sums ≡ true },
 }
 
+// By hand, since neither is derived over a ghost field.
 impl<E: Element<Sum = S>, S: Copy> Copy for StatsSet<E, S> {}
 
 impl<E: Element<Sum = S>, S: Copy> Clone for StatsSet<E, S> {

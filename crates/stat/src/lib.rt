@@ -30,6 +30,7 @@ pub enum Stat {
 }
 
 impl Stat {
+    // Named, since `u8::from(stat)` would not say which number it is.
     pub fn number(self) -> u8
         ensures { result ≡ stat_number self }
     {

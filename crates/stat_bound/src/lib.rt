@@ -16,7 +16,8 @@ use order::ordered::Ordered;
 use order::partial_ord::partial_min;
 use precision::precision::Precision;
 
-// What two bounds have in common: a bound, or no value at all.
+// What two bounds have in common: a bound, or no value at all. Named as in the Rust, and no `Option`, since it stands in one
+// whose `None` says that a side claims nothing.
 #[derive(Clone, Copy, PartialEq, Eq, Debug)]
 pub enum IntersectionResult<T> {
     Value(T),

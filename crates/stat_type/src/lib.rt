@@ -16,6 +16,8 @@ pub trait StatType<T: Ordered> {
     const STAT: Stat;
 }
 
+// Nine types, as in the Rust: each names its own bound and its own statistic.
+
 pub struct Max;
 
 pub struct Min;

@@ -56,6 +56,8 @@ pub trait Kind<E: Copy, S: Copy> {
     ghost read_back: { (v : Self.Value) → part (wrapped v) ≡ Some v };
 }
 
+// Each kind names its own variant.
+
 pub struct Flags;
 
 pub struct Elements;

@@ -94,14 +94,15 @@ impl<T: Ordered> Side<T> for UpperBound<T> {
 }
 
 impl<T: Ordered> UpperBound<T> {
-    // Only an exact bound equals a value.
+    // Only an exact bound equals a value. A method, since `PartialEq` compares values of one type.
     pub fn eq_value(&self, other: &T) -> bool
         ensures { Equates (UpperAllows T.order) (bound_equals T.order self.now.0 other.now) self.now.0 other.now result }
     {
         Self::equals(self.0, *other)
     }
 
-    // An exact bound compares as its value does; an inexact one can only be known to be below a value.
+    // An exact bound compares as its value does; an inexact one can only be known to be below a value. A method, since
+    // `PartialOrd` compares values of one type.
     pub fn partial_cmp_value(&self, other: &T) -> Option<Ordering>
         ensures { Compares T.order (UpperAllows T.order) (upper_compared T.order self.now.0 other.now) self.now.0 other.now result }
     {
