@@ -4,7 +4,7 @@ ghost use Rattle.std.specs.Prelude.{◌≡◌, ◌≤◌};
 
 use std::alloc::AllocError;
 
-pub mod methods;
+mod methods;
 
 // In the order in which they came. Entries past `len` are not in use.
 pub struct Listing<T, const CAP: usize> {
