@@ -23,8 +23,8 @@ use precision::precision::Precision;
 use refusal::Refusal;
 use rules::element::Element;
 use rules::provider::StatsProvider;
-use statement::{StatValue, Statement};
 use stat::Stat;
+use statement::{StatValue, Statement};
 
 impl<E: Element> StatsSet<E, E::Sum> {
     // A set with no entry.
