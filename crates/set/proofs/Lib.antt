@@ -1,1 +1,2 @@
 pub mod Properly
+mod Written

@@ -12,6 +12,7 @@ use stat::Stat;
 use std::alloc::AllocError;
 
 pub mod methods;
+pub mod text;
 
 pub struct StatsSet<E: Element<Sum = S>, S: Copy> {
     claims: Claims<E, S>,

@@ -1,0 +1,44 @@
+// A set as text.
+ghost use Rattle.std.specs.Prelude.{◌≡◌};
+ghost use Rattle.stat.specs.declared.Stat.{Stat as Statistic};
+ghost use Rattle.statement.specs.Kinds.{stated};
+ghost use Rattle.claims.specs.Entries.{claim_in};
+ghost use Rattle.set.specs.Viewed.{entries};
+ghost use Rattle.set.specs.Written.{entries_text};
+
+use super::StatsSet;
+use rules::element::Element;
+use stat::Stat;
+use statement::Statement;
+use std::fmt;
+
+// The entries in order, parted by a blank; `-` where there are none.
+impl<E: Element + fmt::Display> fmt::Display for StatsSet<E, E::Sum>
+where
+    E::Sum: fmt::Display,
+{
+    ghost output = { λ s. entries_text E.Display.output E.Sum.Display.output (entries s) };
+
+    fn fmt<W: fmt::Write>(&self, f: &mut fmt::Formatter<W>) -> fmt::Result {
+        let Some((first, others)) = self.order.as_slice().split_first() else {
+            return f.write_str("-");
+        };
+        write!(f, "{}", self.statement(*first))?;
+        for stat in others {
+            write!(f, " {}", self.statement(*stat))?;
+        }
+        Ok(())
+    }
+}
+
+impl<E: Element> StatsSet<E, E::Sum> {
+    // What a set says of a statistic.
+    fn statement(&self, stat: Stat) -> Statement<E, E::Sum>
+        ensures { result ≡ stated stat (claim_in self.now.claims stat) }
+    {
+        Statement {
+            stat,
+            claim: self.claims.claim(stat),
+        }
+    }
+}
