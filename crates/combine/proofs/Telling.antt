@@ -60,9 +60,6 @@ module _ {V S : Type 0} (k : Column V S) (T : List (Statement V S)) (e : Entries
   abbrev pub Stands : ℕ → Entries V S → Type 0
   Stands i es = (combined k T e ≡ combined k (drop i T) es) × (against k T e ≡ against k (drop i T) es)
 
-  pub at_first : Stands 0 e
-  at_first = (refl, refl)
-
   -- what the rule gives of the claim that is told of the statistic
   abbrev pub Gives : Entries V S → Statement V S → Option (Claim V S) → Type 0
   Gives es s o = o ≡ cond (is_absent (got es s.stat)) (Some s.claim) (intersected k s.stat (got es s.stat) s.claim)
