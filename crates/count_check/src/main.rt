@@ -100,18 +100,16 @@ fn element(value: Option<i64>) -> Claim {
 
 // Whether a provider tells the claims that are there, by rising number, and no more.
 fn tells<P: StatsProvider<Measure>>(provider: &mut P, plain: &Plain) -> bool {
-    let mut place = 0usize;
-    for stat in Stat::all() {
+    let present = Stat::all().into_iter().filter(|stat| !plain.claim(*stat).is_absent());
+    let mut len = 0usize;
+    for (place, stat) in present.enumerate() {
         let claim = plain.claim(stat);
-        if claim.is_absent() {
-            continue;
-        }
         if provider.tell(place) != Some(Statement { stat, claim }) {
             return false;
         }
-        place = place.wrapping_add(1);
+        len = place.saturating_add(1);
     }
-    provider.len() == place
+    provider.len() == len
 }
 
 // The row that a digit stands for.

@@ -3,12 +3,14 @@ ghost use Rattle.std.specs.Prelude.{◌≡◌, true, false, not};
 ghost use Rattle.precision.specs.Claims.{is_absent};
 ghost use Rattle.stat.specs.declared.Stat.{Stat as Statistic};
 ghost use Rattle.listing.specs.Listed.{listed};
+ghost use Rattle.statement.specs.Kinds.{stated};
 ghost use Rattle.claims.specs.Entries.{claim_in, has_stat, distinct};
 
 use claims::Claims;
 use listing::Listing;
 use rules::element::Element;
 use stat::Stat;
+use statement::Statement;
 use std::alloc::AllocError;
 
 pub mod methods;
@@ -33,5 +35,17 @@ impl<E: Element<Sum = S>, S: Copy> Clone for StatsSet<E, S> {
 
     fn clone(&self) -> Result<Self, AllocError> {
         Ok(*self)
+    }
+}
+
+impl<E: Element> StatsSet<E, E::Sum> {
+    // What the set says of a statistic.
+    fn statement(&self, stat: Stat) -> Statement<E, E::Sum>
+        ensures { result ≡ stated stat (claim_in self.now.claims stat) }
+    {
+        Statement {
+            stat,
+            claim: self.claims.claim(stat),
+        }
     }
 }

@@ -145,10 +145,7 @@ impl<E: Element> StatsProvider<E> for StatsSet<E, E::Sum> {
 
     fn tell(&mut self, place: usize) -> Option<Statement<E, E::Sum>> {
         let stat = self.order.get(place)?;
-        Some(Statement {
-            stat,
-            claim: self.claims.claim(stat),
-        })
+        Some(self.statement(stat))
     }
 }
 

@@ -1,15 +1,9 @@
 // A set as text.
-ghost use Rattle.std.specs.Prelude.{◌≡◌};
-ghost use Rattle.stat.specs.declared.Stat.{Stat as Statistic};
-ghost use Rattle.statement.specs.Kinds.{stated};
-ghost use Rattle.claims.specs.Entries.{claim_in};
 ghost use Rattle.set.specs.Viewed.{entries};
 ghost use Rattle.set.specs.Written.{entries_text};
 
 use super::StatsSet;
 use rules::element::Element;
-use stat::Stat;
-use statement::Statement;
 use std::fmt;
 
 // The entries in order, parted by a blank; `-` where there are none.
@@ -28,17 +22,5 @@ where
             write!(f, " {}", self.statement(*stat))?;
         }
         Ok(())
-    }
-}
-
-impl<E: Element> StatsSet<E, E::Sum> {
-    // What a set says of a statistic.
-    fn statement(&self, stat: Stat) -> Statement<E, E::Sum>
-        ensures { result ≡ stated stat (claim_in self.now.claims stat) }
-    {
-        Statement {
-            stat,
-            claim: self.claims.claim(stat),
-        }
     }
 }
