@@ -1,6 +1,5 @@
 -- Filling a set with the claims of a tally, and what counting owes by that.
-use Rattle.std.proofs.Common.{◌≡◌, ℕ, ◌+◌, ◌*◌, ◌^◌, ◌<◌, ◌≤◌, Bool, true, false, cond, ◌&&◌, ltb, List, [], ◌∷◌, length, get_or, take, Some, None, fold, Ordering, sym, refl, ap, ◌∙◌, subst, ap₂, arith}
-use Rattle.std.proofs.lemmas.List.{take_all}
+use Rattle.std.proofs.Common.{◌≡◌, ℕ, ◌+◌, ◌*◌, ◌^◌, ◌<◌, Bool, true, false, cond, ◌&&◌, ltb, List, [], ◌∷◌, length, get_or, take, Some, fold, Ordering, sym, refl, ap, ◌∙◌, subst}
 use Rattle.std.proofs.lemmas.List.Sums.{fold_more}
 use Rattle.std.proofs.lemmas.Bool.{cond-true}
 use Rattle.precision.specs.declared.precision.Precision.{Precision}
@@ -23,7 +22,7 @@ use Rattle.rules.proofs.Counted.{counted_stats, counted_has}
 use Rattle.rules.proofs.Counting.{counted_holds}
 use Rattle.rules.proofs.Totals.{running_told}
 use Rattle.counting.specs.declared.tally.Tally.{Tally}
-use Rattle.counting.specs.Tallied.{least_of, most_of, fresh, with_row, tally_claim, all_put}
+use Rattle.counting.specs.Tallied.{least_of, most_of, fresh, tally_claim, all_put}
 use Rattle.counting.specs.Counted.{Counts}
 use Rattle.counting.proofs.Running.{run, tally_is}
 
@@ -60,10 +59,6 @@ module _ {V S : Type 0} (f : Stat → Claim V S) where
       ∙ ap (λ a. put a s (f s)) was
       ∙ sym (fold_more (λ a r. put a r (f r)) [] ss i d (subst (λ l. i < length l) (sym is) below))
 
-  -- all of them
-  pub put_done : (ss : List Stat) (i : ℕ) (es : Entries V S) → 9 ≤ i → es ≡ all_put f (take i ss) → ss ≡ all_stats → es ≡ all_put f all_stats
-  put_done ss i es past was is = was ∙ ap (all_put f) (take_all i ss (subst (λ l. length l ≤ i) (sym is) past) ∙ is)
-
 -- equal claims fill a set alike
 put_same : {V S : Type 0} (f g : Stat → Claim V S) → ((s : Stat) → f s ≡ g s) → (ss : List Stat) (es : Entries V S) → fold (λ a s. put a s (f s)) es ss ≡ fold (λ a s. put a s (g s)) es ss
 put_same f g e [] es = refl
@@ -74,15 +69,3 @@ pub counting_owed : {V S : Type 0} (k : Column V S) → ColumnLaws k → (rows :
 counting_owed k laws rows t es e f =
     let value : es ≡ counted k rows = f ∙ ap (λ u. all_put (tally_claim k.order k.sums u (length rows)) all_stats) e ∙ put_same (tally_claim k.order k.sums (run k (fresh k.sums) rows) (length rows)) (counted_claim k rows) (tally_is k laws rows) all_stats [] in
     record { value = value; truth = subst (AllHold k rows) (sym value) (counted_holds k laws rows); which = ap stats_of value ∙ counted_stats k rows; fits = λ e. subst (Tells (RunningFits k (elements rows))) (sym (ap (λ es. has es Total) value ∙ counted_has k rows Total ∙ ap (λ b. b && some? (summed k (Some k.sums.zero) (elements rows))) e)) (running_told k (laws.summed e) (elements rows)) }
-
--- one row more leaves as many nulls, or has one more
-nulls_fed : {V S : Type 0} (k : Column V S) (t : Tally V S) (row : Row V) → (with_row k.order k.sums t row).nulls ≤ t.nulls + 1
-nulls_fed k t None = omega arith
-nulls_fed k t (Some v) = omega arith
-
--- the tally of one row more
-pub run_more : {V S : Type 0} (k : Column V S) (rows : List (Row V)) (i : ℕ) (row : Row V) (t u : Tally V S) → i < length rows → row ≡ get_or rows i row → u ≡ with_row k.order k.sums t row → (t.nulls ≤ i) × (t ≡ run k (fresh k.sums) (take i rows)) → (u.nulls ≤ i + 1) × (u ≡ run k (fresh k.sums) (take (i + 1) rows))
-run_more k rows i row t u below is made was = (
-  omega (arith, nulls_fed k t row, ap (λ (x : Tally _ _). x.nulls) made, was.0),
-  made ∙ ap₂ (with_row k.order k.sums) was.1 is ∙ sym (fold_more (with_row k.order k.sums) (fresh k.sums) rows i row below),
-)
