@@ -1,7 +1,7 @@
 // The four kinds of value, each as a type: how a value of it stands among those of every kind, and is read back.
 ghost use Rattle.std.specs.Prelude.{◌≡◌, Option as Maybe, Some};
 ghost use Rattle.precision.specs.Claims.{mapped};
-ghost use Rattle.statement.specs.declared.StatValue.{StatValue as Any};
+ghost use Rattle.statement.specs.declared.StatValue.{StatValue as Valued};
 ghost use Rattle.statement.specs.declared.StatValue.TheVariants.{Flag, Element, Sum, Count};
 ghost use Rattle.statement.specs.Kinds.{parted, flag_in, element_in, sum_in, count_in};
 ghost use Rattle.std.proofs.Common.{rules};
@@ -13,9 +13,9 @@ pub trait Kind<E: Copy, S: Copy> {
     type Value: Copy;
 
     // A value among those of every kind, and the part of one that is of this kind.
-    ghost wrapped: { Self.Value → Any E S };
+    ghost wrapped: { Self.Value → Valued E S };
 
-    ghost part: { Any E S → Maybe Self.Value };
+    ghost part: { Valued E S → Maybe Self.Value };
 
     fn wrap(value: Self::Value) -> StatValue<E, S>
         ensures { result ≡ wrapped value };
