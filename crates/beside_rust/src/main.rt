@@ -14,10 +14,9 @@ use stat::{ParseStatError, Stat};
 use stat_bound::{IntersectionResult, StatBound};
 use statement::{StatValue, Statement};
 use std::alloc::{AllocError, AllocFailed, Global};
-use std::env;
-use std::fmt;
 use std::io::{BufRead, BufReader};
 use std::str::FromStr;
+use std::{env, fmt};
 use upper_bound::UpperBound;
 
 const HELP: &str =
@@ -86,6 +85,7 @@ impl<'a> Request<'a> {
 }
 
 // What a request comes to.
+#[derive(Drop)]
 enum Outcome<E: Element<Sum = Measure>> {
     // what was declined, if anything was, and the first set afterwards
     Set(Option<Refusal>, Zone<E>),
@@ -112,6 +112,7 @@ impl<E: Element<Sum = Measure> + fmt::Display> fmt::Display for Outcome<E> {
 }
 
 // What a request comes to, by its column.
+#[derive(Drop)]
 enum Reply {
     Measures(Outcome<Measure>),
     Marks(Outcome<Mark>),
@@ -191,7 +192,11 @@ where
         "clear" => zone.clear(Stat::from_str(request.second)?),
         "retain_only" => {
             let mut stats = Vec::new(heap);
-            for word in request.second.split_whitespace().filter(|word| *word != "-") {
+            for word in request
+                .second
+                .split_whitespace()
+                .filter(|word| *word != "-")
+            {
                 stats.push(Stat::from_str(word)?)?;
             }
             zone.retain_only(&stats);
@@ -207,38 +212,39 @@ where
     Ok(Outcome::Set(declined, zone))
 }
 
-fn union<E: Ordered + Element<Sum = Measure>, B: StatBound<E>>(
-    first: Precision<E>,
-    second: Precision<E>,
-) -> Outcome<E> {
-    let union = B::lift(first).union(&B::lift(second));
-    Outcome::Union(union.map(|bound| bound.into_value()))
+// A claim of an element.
+fn read_claim<E: FromStr + Copy>(text: &str) -> Result<Precision<E>, Failure>
+where
+    E::Err: Drop,
+{
+    Precision::<E>::from_str(text).map_err(|_| Failure::Unreadable)
 }
 
-fn intersection<E: Ordered + Element<Sum = Measure>, B: StatBound<E>>(
-    first: Precision<E>,
-    second: Precision<E>,
-) -> Outcome<E> {
-    let intersection = B::lift(first).intersection(&B::lift(second));
-    Outcome::Intersection(intersection.map(|meet| match meet {
-        IntersectionResult::Value(bound) => IntersectionResult::Value(bound.into_value()),
-        IntersectionResult::Empty => IntersectionResult::Empty,
-    }))
-}
-
-// A request on two claims.
-fn of_claims<E: Element<Sum = Measure> + FromStr, F: FnOnce(Precision<E>, Precision<E>) -> Outcome<E>>(
+fn union<E: Ordered + Element<Sum = Measure> + FromStr, B: StatBound<E>>(
     request: Request<'_>,
-    operation: F,
 ) -> Result<Outcome<E>, Failure>
 where
     E::Err: Drop,
-    requires { F.IsAlwaysCallable operation }
 {
-    match (Precision::<E>::from_str(request.first), Precision::<E>::from_str(request.second)) {
-        (Ok(first), Ok(second)) => Ok(operation(first, second)),
-        _ => Err(Failure::Unreadable),
-    }
+    let first = read_claim::<E>(request.first)?;
+    let second = read_claim::<E>(request.second)?;
+    let union = B::lift(first).union(&B::lift(second));
+    Ok(Outcome::Union(union.map(|bound| bound.into_value())))
+}
+
+fn intersection<E: Ordered + Element<Sum = Measure> + FromStr, B: StatBound<E>>(
+    request: Request<'_>,
+) -> Result<Outcome<E>, Failure>
+where
+    E::Err: Drop,
+{
+    let first = read_claim::<E>(request.first)?;
+    let second = read_claim::<E>(request.second)?;
+    let intersection = B::lift(first).intersection(&B::lift(second));
+    Ok(Outcome::Intersection(intersection.map(|meet| match meet {
+        IntersectionResult::Value(bound) => IntersectionResult::Value(bound.into_value()),
+        IntersectionResult::Empty => IntersectionResult::Empty,
+    })))
 }
 
 // What a request of a column comes to.
@@ -254,12 +260,12 @@ where
             let zone = read_set::<E>(request.first)?;
             Ok(Outcome::Claim(zone.get(Stat::from_str(request.second)?)))
         }
-        "lower_union" => of_claims(request, union::<E, LowerBound<E>>),
-        "upper_union" => of_claims(request, union::<E, UpperBound<E>>),
-        "precision_union" => of_claims(request, union::<E, Precision<E>>),
-        "lower_intersection" => of_claims(request, intersection::<E, LowerBound<E>>),
-        "upper_intersection" => of_claims(request, intersection::<E, UpperBound<E>>),
-        "precision_intersection" => of_claims(request, intersection::<E, Precision<E>>),
+        "lower_union" => union::<E, LowerBound<E>>(request),
+        "upper_union" => union::<E, UpperBound<E>>(request),
+        "precision_union" => union::<E, Precision<E>>(request),
+        "lower_intersection" => intersection::<E, LowerBound<E>>(request),
+        "upper_intersection" => intersection::<E, UpperBound<E>>(request),
+        "precision_intersection" => intersection::<E, Precision<E>>(request),
         _ => change_set::<E>(heap, request),
     }
 }
@@ -275,7 +281,10 @@ fn respond(heap: Global, text: &str) -> Result<Reply, Failure> {
 }
 
 fn main(rt: HostRuntime) -> anyhow::Result<()> {
-    if env::args(&rt)?.skip(1).any(|word| word.as_str() == "--help") {
+    if env::args(&rt)?
+        .skip(1)
+        .any(|word| word.as_str() == "--help")
+    {
         println!(rt; "{HELP}")?;
         return Ok(());
     }

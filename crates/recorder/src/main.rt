@@ -9,11 +9,10 @@ use rules::element::Element;
 use set::stats_set::StatsSet;
 use statement::Statement;
 use statement::text::ParseStatementError;
-use std::env;
 use std::error::Error;
-use std::fmt;
 use std::io::{BufRead, BufReader};
 use std::str::FromStr;
+use std::{env, fmt};
 
 const HELP: &str =
     "recorder: merges or combines the statistics of two zones, a request a line on standard input
@@ -75,6 +74,7 @@ impl From<Refusal> for Unreadable {
 }
 
 // What was declined, if anything was, and the first zone afterwards.
+#[derive(Drop)]
 struct Answer<E: Element<Sum = Measure>> {
     declined: Option<Refusal>,
     zone: Zone<E>,
@@ -90,6 +90,7 @@ impl<E: Element<Sum = Measure> + fmt::Display> fmt::Display for Answer<E> {
 }
 
 // The answer, by the column of the zones.
+#[derive(Drop)]
 enum Reply {
     Measures(Answer<Measure>),
     Marks(Answer<Mark>),
@@ -117,7 +118,7 @@ where
 }
 
 // What a request on two sets of a column comes to.
-fn answer<E: Element<Sum = Measure> + FromStr>(
+fn carry_out<E: Element<Sum = Measure> + FromStr>(
     request: &str,
     first: &str,
     second: &str,
@@ -145,14 +146,17 @@ fn respond(text: &str) -> Result<Reply, Unreadable> {
     let column = words.next().unwrap_or("");
     let request = words.next().unwrap_or("");
     match column {
-        "measure" => Ok(Reply::Measures(answer(request, first, second)?)),
-        "mark" => Ok(Reply::Marks(answer(request, first, second)?)),
+        "measure" => Ok(Reply::Measures(carry_out(request, first, second)?)),
+        "mark" => Ok(Reply::Marks(carry_out(request, first, second)?)),
         _ => Err(Unreadable::NoColumn),
     }
 }
 
 fn main(rt: HostRuntime) -> anyhow::Result<()> {
-    if env::args(&rt)?.skip(1).any(|word| word.as_str() == "--help") {
+    if env::args(&rt)?
+        .skip(1)
+        .any(|word| word.as_str() == "--help")
+    {
         println!(rt; "{HELP}")?;
         return Ok(());
     }
