@@ -161,10 +161,9 @@ fn main(rt: HostRuntime) -> anyhow::Result<()> {
         return Ok(());
     }
     let heap = rt.alloc();
-    let mut number = 0u64;
-    for text in BufReader::new(heap, rt.stdin())?.lines(heap) {
+    for (index, text) in BufReader::new(heap, rt.stdin())?.lines(heap).enumerate() {
+        let number = index.saturating_add(1);
         let text = text?;
-        number = number.saturating_add(1);
         let trimmed = text.as_str().trim();
         if trimmed.is_empty() || trimmed.starts_with('#') {
             continue;
