@@ -13,10 +13,10 @@ use lower_bound::LowerBound;
 use merge::MergeSets;
 use precision::precision::Precision;
 use precision::precision::Precision::{Exact, Inexact};
-use statement::StatValue;
 use set::stats_set::StatsSet;
 use stat::Stat;
 use stat_bound::{IntersectionResult, StatBound};
+use statement::StatValue;
 use upper_bound::UpperBound;
 
 // What each case comes to.

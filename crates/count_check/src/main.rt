@@ -100,7 +100,9 @@ fn element(value: Option<i64>) -> Claim {
 
 // Whether a provider tells the claims that are there, by rising number, and no more.
 fn tells<P: StatsProvider<Measure>>(provider: &mut P, plain: &Plain) -> bool {
-    let present = Stat::all().into_iter().filter(|stat| !plain.claim(*stat).is_absent());
+    let present = Stat::all()
+        .into_iter()
+        .filter(|stat| !plain.claim(*stat).is_absent());
     let mut len = 0usize;
     for (place, stat) in present.enumerate() {
         let claim = plain.claim(stat);
