@@ -167,9 +167,8 @@ where
     let mut zone = Zone::<E>::new();
     for word in text.split_whitespace().filter(|word| *word != "-") {
         let told = read_told::<E>(word).ok_or(Failure::Unreadable)?;
-        if zone.set(told.stat, told.claim).is_err() {
-            return Err(Failure::Unreadable);
-        }
+        zone.set(told.stat, told.claim)
+            .map_err(|_| Failure::Unreadable)?;
     }
     Ok(zone)
 }

@@ -1,6 +1,6 @@
 -- Lists of statistics: which are in one, that none is twice, and that there are at most nine.
 use Rattle.std.proofs.Common.{◌≡◌, ℕ, ◌+◌, ◌<◌, ◌≤◌, Bool, true, false, cond, not, ◌&&◌, List, [], ◌∷◌, ◌++◌, length, filter, sym, refl, ap, ◌∙◌, arith}
-use Rattle.std.proofs.lemmas.Bool.{true≢false, cond_both, and_parts, and_from, not-true, not_from_false}
+use Rattle.std.proofs.lemmas.Bool.{true≢false, cond_both, and_parts, and_from, not-true, not_from_false, and_right}
 use Rattle.stat.specs.declared.Stat.{Stat}
 use Rattle.stat.specs.declared.Stat.TheVariants.{IsConstant, IsSorted, IsStrictSorted, Max, Min, Sum as Total, NullCount, UncompressedSizeInBytes, NaNCount}
 use Rattle.stat.specs.Stats.{same_stat}
@@ -38,12 +38,8 @@ distinct_kept keep [] d = refl
 distinct_kept keep (t ∷ ss) d =
     let parts = and_parts (not (has_stat ss t)) (distinct ss) d in
     cond_both (keep t) (t ∷ filter keep ss) (filter keep ss) (λ l. distinct l ≡ true)
-    (λ _. and_from (not (has_stat (filter keep ss) t)) (distinct (filter keep ss)) (not_from_false (has_stat (filter keep ss) t) (has_kept keep ss t ∙ nowhere (keep t) (has_stat ss t) (not-true (has_stat ss t) parts.0))) (distinct_kept keep ss parts.1))
+    (λ _. and_from (not (has_stat (filter keep ss) t)) (distinct (filter keep ss)) (not_from_false (has_stat (filter keep ss) t) (has_kept keep ss t ∙ and_right (keep t) (has_stat ss t) (not-true (has_stat ss t) parts.0))) (distinct_kept keep ss parts.1))
     (λ _. distinct_kept keep ss parts.1)
-  where
-    nowhere : (a b : Bool) → b ≡ false → (a && b) ≡ false
-    nowhere true b e = e
-    nowhere false b e = refl
 
 pub distinct_added : (ss : List Stat) (s : Stat) → distinct ss ≡ true → has_stat ss s ≡ false → distinct (ss ++ (s ∷ [])) ≡ true
 distinct_added [] s d h = refl

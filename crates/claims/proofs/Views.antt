@@ -1,7 +1,7 @@
 -- A set's two parts as the list of its entries: what a change of the parts makes of the entries.
 use Rattle.std.proofs.Common.{◌≡◌, ℕ, ◌+◌, ◌<◌, Bool, true, false, cond, not, ◌&&◌, ltb, List, [], ◌∷◌, ◌++◌, length, get_or, set, take, filter, sym, refl, ap, ◌∙◌, subst, arith, get_or-set_other, get_or-set_same}
 use Rattle.std.proofs.lemmas.Bool.{true≢false, cond_both, cond-true, cond-false, lt-ltb, and_parts, and_from, not-true, eqb-true, eqb-false}
-use Rattle.std.proofs.lemmas.List.{take_more}
+use Rattle.std.proofs.lemmas.List.{take_more, map-append}
 use Rattle.precision.specs.declared.precision.Precision.{Precision}
 use Rattle.precision.specs.declared.precision.Precision.TheVariants.{Exact, Inexact, Absent}
 use Rattle.precision.specs.Claims.{is_absent, mapped}
@@ -34,10 +34,6 @@ module _ {V S : Type 0} where
   has_of : (c : Claims V S) (ts : List Stat) (s : Stat) → has (entries_of c ts) s ≡ has_stat ts s
   has_of c [] s = refl
   has_of c (t ∷ ts) s = ap (cond (same_stat s t) true) (has_of c ts s)
-
-  of_append : (c : Claims V S) (ts us : List Stat) → entries_of c (ts ++ us) ≡ entries_of c ts ++ entries_of c us
-  of_append c [] us = refl
-  of_append c (t ∷ ts) us = ap (λ l. stated t (claim_in c t) ∷ l) (of_append c ts us)
 
   -- d has another claim for s
   module _ (c d : Claims V S) (s : Stat) (x : Claim V S) (written : (t : Stat) → claim_in d t ≡ cond (same_stat s t) x (claim_in c t)) where
@@ -180,7 +176,7 @@ module _ {V S : Type 0} (sums : Bool) (c : Claims V S) (ss : List Stat) (tied : 
         last_told = told s ∙ ap (λ b. cond b x (claim_in c s)) (stat_itself s)
 
         added : is_absent (claim_in c s) ≡ true → entries_of written (ss ++ (s ∷ [])) ≡ entries_of c ss ++ (stated s x ∷ [])
-        added a = of_append written ss (s ∷ []) ∙ (λ i. of_others c written s x told ss (tied.present s ∙ ap not a) i ++ (stated s (last_told i) ∷ []))
+        added a = map-append (λ t. stated t (claim_in written t)) ss (s ∷ []) ∙ (λ i. of_others c written s x told ss (tied.present s ∙ ap not a) i ++ (stated s (last_told i) ∷ []))
 
 -- clearing is keeping all the others
 pub retained_others : {V S : Type 0} (es : Entries V S) (s : Stat) (keep : Stat → Bool) → ((t : Stat) → keep t ≡ not (same_stat s t)) → retained keep es ≡ without es s

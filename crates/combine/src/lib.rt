@@ -50,6 +50,7 @@ impl<E: Element> CombineSets<E> for StatsSet<E, E::Sum> {
             let Some(claim) = joined::<E>(self.get(told.stat), told) else {
                 return Err(Refusal::Contradiction(told.stat));
             };
+            // of the statistic's kind, so it is not declined
             let _ = self.set(told.stat, claim);
         }
         Ok(())

@@ -35,11 +35,11 @@ impl Plain {
             nulls: 0,
             rows: rows.len() as u64,
         };
-        for (i, earlier) in rows.iter().enumerate() {
+        let mut rest = rows;
+        while let Some((earlier, later)) = rest.split_first() {
             plain = plain.with_row(*earlier);
-            for later in rows.iter().skip(i.saturating_add(1)) {
-                plain = plain.with_pair(*earlier, *later);
-            }
+            plain = later.iter().fold(plain, |plain, row| plain.with_pair(*earlier, *row));
+            rest = later;
         }
         plain
     }
@@ -100,18 +100,16 @@ fn element(value: Option<i64>) -> Claim {
 
 // Whether a provider tells the claims that are there, by rising number, and no more.
 fn tells<P: StatsProvider<Measure>>(provider: &mut P, plain: &Plain) -> bool {
-    let present = Stat::all()
+    let expected = Stat::all()
         .into_iter()
-        .filter(|stat| !plain.claim(*stat).is_absent());
-    let mut len = 0usize;
-    for (place, stat) in present.enumerate() {
-        let claim = plain.claim(stat);
-        if provider.tell(place) != Some(Statement { stat, claim }) {
-            return false;
-        }
-        len = place.saturating_add(1);
-    }
-    provider.len() == len
+        .map(|stat| Statement {
+            stat,
+            claim: plain.claim(stat),
+        })
+        .filter(|statement| !statement.claim.is_absent());
+    let len = provider.len();
+    let told = (0..len).map(|place| provider.tell(place));
+    told.eq(expected.map(Some))
 }
 
 // The row that a digit stands for.
@@ -140,12 +138,12 @@ fn code_agrees(code: u32, len: usize) -> bool {
 }
 
 fn main(rt: HostRuntime) -> io::Result<()> {
-    let mut slices = 0u32;
-    let mut differ = 0usize;
-    for (len, codes) in [1u32, 4, 16, 64, 256].into_iter().enumerate() {
-        slices = slices.wrapping_add(codes);
-        let wrong = (0..codes).filter(|code| !code_agrees(*code, len)).count();
-        differ = differ.wrapping_add(wrong);
-    }
+    let (slices, differ) = [1u32, 4, 16, 64, 256].into_iter().enumerate().fold(
+        (0u32, 0usize),
+        |(slices, differ), (len, codes)| {
+            let wrong = (0..codes).filter(|code| !code_agrees(*code, len)).count();
+            (slices.wrapping_add(codes), differ.wrapping_add(wrong))
+        },
+    );
     println!(rt; "{slices} slices counted, {differ} differ")
 }

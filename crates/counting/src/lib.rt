@@ -24,7 +24,7 @@ pub fn count<E: Element>(rows: &[Option<E>]) -> StatsSet<E, E::Sum>
     tallied(rows).set(rows.len() as u64)
 }
 
-// What counting keeps after the last row. A `for`, since each row is fed to the nine in turn.
+// What counting keeps after the last row. A `for` over the rows, as the rules have it.
 fn tallied<E: Element>(rows: &[Option<E>]) -> Tally<E, E::Sum>
     ensures { result ≡ fold (with_row E.Ordered.order E.Element.sums) (fresh E.Element.sums) rows.now }
 {

@@ -93,6 +93,7 @@ impl<E: Element> Tally<E, E::Sum> {
     {
         let mut set = StatsSet::<E, E::Sum>::new();
         for stat in Stat::all() {
+            // of the statistic's kind, so it is not declined
             let _ = set.set(stat, self.claim(stat, rows));
         }
         set

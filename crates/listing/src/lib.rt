@@ -6,7 +6,9 @@ use std::alloc::AllocError;
 
 mod methods;
 
-// In the order in which they came. Entries past `len` are not in use.
+// In the order in which they came. Entries past `len` are not in use. A table of its own, since a set is fixed memory that can
+// be copied: `ArrayVec` cannot, and its `push` asks for room.
+#[derive(Copy)]
 pub struct Listing<T, const CAP: usize> {
     items: [T; CAP],
     len: usize,
@@ -14,11 +16,11 @@ pub struct Listing<T, const CAP: usize> {
     ghost fits: { len ≤ CAP },
 }
 
-// By hand, since neither is derived over a ghost field.
-impl<T: Copy, const CAP: usize> Copy for Listing<T, CAP> {}
-
+// By hand, since it is not derived over a ghost field.
 impl<T: Copy, const CAP: usize> Clone for Listing<T, CAP> {
     ghost is_clone = { λ x y. y ≡ x };
+
+    ghost is_infallible = { λ _. Unit {0} };
 
     fn clone(&self) -> Result<Self, AllocError> {
         Ok(*self)

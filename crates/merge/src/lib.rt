@@ -50,6 +50,7 @@ fn merge<E: Element>(values: &mut StatsSet<E, E::Sum>, other: &StatsSet<E, E::Su
 {
     for stat in Stat::all() {
         let claim = merged(values, other, in_order, stat);
+        // of the statistic's kind, so it is not declined
         let _ = values.set(stat, claim);
     }
 }
@@ -65,30 +66,30 @@ fn merged<E: Element>(
 {
     match stat {
         Stat::IsConstant => Flags::claim(leaves::merge_constant(
-            Flags::claim_in(mine.get(stat)),
-            Flags::claim_in(other.get(stat)),
-            Elements::claim_in(mine.get(Stat::Min)),
-            Elements::claim_in(other.get(Stat::Min)),
+            mine.get_as::<Flags>(stat),
+            other.get_as::<Flags>(stat),
+            mine.get_as::<Elements>(Stat::Min),
+            other.get_as::<Elements>(Stat::Min),
         )),
         Stat::IsSorted if in_order => sortedness(Comparison::Le, mine, other, stat),
         Stat::IsStrictSorted if in_order => sortedness(Comparison::Lt, mine, other, stat),
         Stat::IsSorted | Stat::IsStrictSorted => Precision::Absent,
         Stat::Max => Elements::claim(leaves::merge_max(
-            Elements::claim_in(mine.get(stat)),
-            Elements::claim_in(other.get(stat)),
+            mine.get_as::<Elements>(stat),
+            other.get_as::<Elements>(stat),
         )),
         Stat::Min => Elements::claim(leaves::merge_min(
-            Elements::claim_in(mine.get(stat)),
-            Elements::claim_in(other.get(stat)),
+            mine.get_as::<Elements>(stat),
+            other.get_as::<Elements>(stat),
         )),
         Stat::Sum => Sums::claim(leaves::merge_sum::<E>(
-            Sums::claim_in(mine.get(stat)),
-            Sums::claim_in(other.get(stat)),
+            mine.get_as::<Sums>(stat),
+            other.get_as::<Sums>(stat),
         )),
         Stat::NullCount | Stat::UncompressedSizeInBytes | Stat::NaNCount => {
             Counts::claim(leaves::merge_count(
-                Counts::claim_in(mine.get(stat)),
-                Counts::claim_in(other.get(stat)),
+                mine.get_as::<Counts>(stat),
+                other.get_as::<Counts>(stat),
             ))
         }
     }
@@ -105,9 +106,9 @@ fn sortedness<E: Element>(
 {
     Flags::claim(leaves::merge_sortedness(
         comparison,
-        Flags::claim_in(mine.get(stat)),
-        Flags::claim_in(other.get(stat)),
-        Elements::claim_in(mine.get(Stat::Max)),
-        Elements::claim_in(other.get(Stat::Min)),
+        mine.get_as::<Flags>(stat),
+        other.get_as::<Flags>(stat),
+        mine.get_as::<Elements>(Stat::Max),
+        other.get_as::<Elements>(Stat::Min),
     ))
 }

@@ -1,17 +1,8 @@
 -- What an order's laws give of its two tests, below and above: each is strict, and the one is the other turned round.
 use Rattle.std.proofs.Common.{◌≡◌, Bool, true, false, cond, Ordering, Less, Equal, Greater, sym, refl, ap, ◌∙◌, subst}
-use Rattle.std.proofs.lemmas.Bool.{true≢false, false≢true, both_ways, cond_both}
+use Rattle.std.proofs.lemmas.Bool.{true≢false, false≢true, false_from_ne_true, true_from_ne_false, both_ways, cond_both}
 use Rattle.std.specs.Ordering.{is_lt, is_eq, is_gt, ordering_reverse}
 use Rattle.order.specs.Order.{OrderLaws, below, same, above}
-
--- a test that is not passed is failed
-pub failed : (b : Bool) → (b ≡ true → ⊥) → b ≡ false
-failed true h = absurd (h refl)
-failed false h = refl
-
-pub passed : (b : Bool) → (b ≡ false → ⊥) → b ≡ true
-passed true h = refl
-passed false h = absurd (h refl)
 
 pub turned_true : (b : Bool) → cond b false true ≡ true → b ≡ false
 turned_true true h = sym h
@@ -80,7 +71,7 @@ module _ {V : Type 0} (order : V → V → Ordering) (laws : OrderLaws order) wh
 
   pub below_through : (x y z : V) → below order x y ≡ false → below order y z ≡ false → below order x z ≡ false
   below_through x y z h k =
-      failed (below order x z) (λ e. both_ways (below order y z) k (below_over x y z (order x y) refl h e))
+      false_from_ne_true (below order x z) (λ e. both_ways (below order y z) k (below_over x y z (order x y) refl h e))
 
   pub below_strict : Strict (below order) (above order)
   below_strict =
@@ -103,7 +94,7 @@ module _ {V : Type 0} (order : V → V → Ordering) (laws : OrderLaws order) wh
   -- x at most u, u below v, v at most y: x below y
   pub step_up : (u v x y : V) → below order u v ≡ true → above order x u ≡ false → below order y v ≡ false → below order x y ≡ true
   step_up u v x y step h k =
-      passed (below order x y) (λ n. both_ways (below order u v) (below_through u x v (below_round u x ∙ h) (below_through x y v n k)) step)
+      true_from_ne_false (below order x y) (λ n. both_ways (below order u v) (below_through u x v (below_round u x ∙ h) (below_through x y v n k)) step)
 
 -- of two values the one that lies ahead: neither lies ahead of it
 module _ {V : Type 0} (ahead behind : V → V → Bool) (strict : Strict ahead behind) where

@@ -1,4 +1,5 @@
 // The lesser and the greater of two values. Any two values of an ordered type compare, so the answer is always there.
+// Two functions, as in the Rust: which way the comparison goes is all that differs.
 ghost use Rattle.std.specs.Prelude.{◌≡◌, IsSomeAnd, Some};
 ghost use Rattle.order.specs.Order.{lesser, greater, Lowest, Highest};
 

@@ -57,8 +57,8 @@ impl<E: Element> Question<E> for Range<E> {
     }
 
     fn skip(&mut self, claims: &StatsSet<E, E::Sum>) -> bool {
-        let greatest = Elements::claim_in(claims.get(Stat::Max)).into_inner();
-        let least = Elements::claim_in(claims.get(Stat::Min)).into_inner();
+        let greatest = claims.get_as::<Elements>(Stat::Max).into_inner();
+        let least = claims.get_as::<Elements>(Stat::Min).into_inner();
         let below = greatest.is_some_and(|v| v.compare(self.lo).is_lt());
         let above = least.is_some_and(|v| v.compare(self.hi).is_gt());
         self.lo.compare(self.hi).is_gt() | (below | above)
@@ -84,7 +84,7 @@ impl<E: Element> Question<E> for Null {
     }
 
     fn skip(&mut self, claims: &StatsSet<E, E::Sum>) -> bool {
-        let nulls = Counts::claim_in(claims.get(Stat::NullCount)).into_inner();
+        let nulls = claims.get_as::<Counts>(Stat::NullCount).into_inner();
         nulls.is_some_and(|n| n == 0)
     }
 }

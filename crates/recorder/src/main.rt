@@ -161,8 +161,7 @@ fn main(rt: HostRuntime) -> anyhow::Result<()> {
         return Ok(());
     }
     let heap = rt.alloc();
-    for (index, text) in BufReader::new(heap, rt.stdin())?.lines(heap).enumerate() {
-        let number = index.saturating_add(1);
+    for (number, text) in (1u64..).zip(BufReader::new(heap, rt.stdin())?.lines(heap)) {
         let text = text?;
         let trimmed = text.as_str().trim();
         if trimmed.is_empty() || trimmed.starts_with('#') {

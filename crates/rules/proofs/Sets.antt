@@ -1,7 +1,7 @@
 -- Sets as lists of entries: what holds of every entry after a change, and what stands in a set after `put`, or after a claim was put in for each of several statistics.
 use Rattle.std.proofs.Common.{◌≡◌, Bool, true, false, cond, ◌⊎◌, List, [], ◌∷◌, ◌++◌, get_or, sym, refl, ap, ◌∙◌, subst, inl, inr}
 use Rattle.std.proofs.ByRecursion.{All-append, All-weaker}
-use Rattle.std.proofs.lemmas.Bool.{true≢false, false≢true, cond_both, eqb-true, eq-eqb}
+use Rattle.std.proofs.lemmas.Bool.{true≢false, false≢true, cond_both, eqb-true, eq-eqb, false_from_ne_true}
 use Rattle.stat.specs.declared.Stat.{Stat}
 use Rattle.stat.specs.declared.Stat.TheVariants.{IsConstant, IsSorted, IsStrictSorted, Max, Min, Sum, NullCount, UncompressedSizeInBytes, NaNCount}
 use Rattle.precision.specs.declared.precision.Precision.TheVariants.{Exact, Inexact, Absent}
@@ -14,7 +14,6 @@ use Rattle.precision.specs.Claims.{is_absent}
 use Rattle.rules.specs.Truth.{ClaimHolds, AllHold}
 use Rattle.rules.specs.Sets.{Entries, Apart, got, has, without, retained, replaced, put}
 use Rattle.rules.proofs.Lists.{every_in, in_every, every_both}
-use Rattle.order.proofs.Orders.{failed}
 use Rattle.rules.proofs.Claims.{absent_holds}
 
 -- statistics: the same by number are the same, and all nine are in the list
@@ -39,7 +38,7 @@ stat_differs : (r s t : Stat) → same_stat r s ≡ false → same_stat s t ≡ 
 stat_differs r s t d h = subst (λ u. same_stat r u ≡ false) (same_stat_is s t h) d
 
 stat_turned : (s r : Stat) → same_stat s r ≡ false → same_stat r s ≡ false
-stat_turned s r d = failed (same_stat r s) (λ t. true≢false (sym (stat_itself s) ∙ stat_differs s r s d t))
+stat_turned s r d = false_from_ne_true (same_stat r s) (λ t. true≢false (sym (stat_itself s) ∙ stat_differs s r s d t))
 
 in_rest : (s r : Stat) (ss : List Stat) → same_stat s r ≡ false → In s (r ∷ ss) → In s ss
 in_rest s r ss d here = absurd (true≢false (sym (stat_itself s) ∙ d))

@@ -13,7 +13,7 @@ pub trait Element: Ordered {
     // Whether elements have sums.
     const HAS_SUMS: bool;
 
-    // The two as numbers and truth of the rules.
+    // What contracts call the two constants.
     ghost WIDTH: { ℕ };
 
     ghost HAS_SUMS: { Bool };

@@ -16,6 +16,7 @@ use std::alloc::AllocError;
 pub mod methods;
 pub mod text;
 
+#[derive(Copy)]
 pub struct StatsSet<E: Element<Sum = S>, S: Copy> {
     claims: Claims<E, S>,
     order: Listing<Stat, 9>,
@@ -27,11 +28,11 @@ pub struct StatsSet<E: Element<Sum = S>, S: Copy> {
     ghost summed: { is_absent claims.sum ≡ false → E.Element.sums.has_sums ≡ true },
 }
 
-// By hand, since neither is derived over a ghost field.
-impl<E: Element<Sum = S>, S: Copy> Copy for StatsSet<E, S> {}
-
+// By hand, since it is not derived over a ghost field.
 impl<E: Element<Sum = S>, S: Copy> Clone for StatsSet<E, S> {
     ghost is_clone = { λ x y. y ≡ x };
+
+    ghost is_infallible = { λ _. Unit {0} };
 
     fn clone(&self) -> Result<Self, AllocError> {
         Ok(*self)

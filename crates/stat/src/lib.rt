@@ -37,7 +37,7 @@ impl Stat {
         self as u8
     }
 
-    // Whether the two are the same statistic.
+    // Whether the two are the same statistic: `==`, by the numbers that the rules compare.
     pub fn same(self, other: Stat) -> bool
         ensures { result ≡ same_stat self other }
     {

@@ -1,5 +1,5 @@
-// What lower and upper bounds do alike, each as seen from its side. What is left in either is its names and one line each,
-// as the Rust has them.
+// What lower and upper bounds do alike, each as seen from its side. What is left in either puts a claim into its own type,
+// under the names of the Rust.
 ghost use Rattle.std.specs.Prelude.{◌≡◌, Bool};
 ghost use Rattle.stat_bound.specs.Bounds.{bound_equals, compared_by, intersection_by, union_by, Allows, Equates};
 

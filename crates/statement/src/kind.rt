@@ -40,14 +40,8 @@ pub trait Kind<E: Copy, S: Copy> {
         ensures { result ≡ parted part claim }
     {
         match claim {
-            Precision::Exact(v) => match Self::read(v) {
-                Some(part) => Precision::Exact(part),
-                None => Precision::Absent,
-            },
-            Precision::Inexact(v) => match Self::read(v) {
-                Some(part) => Precision::Inexact(part),
-                None => Precision::Absent,
-            },
+            Precision::Exact(v) => Self::read(v).map_or(Precision::Absent, Precision::Exact),
+            Precision::Inexact(v) => Self::read(v).map_or(Precision::Absent, Precision::Inexact),
             Precision::Absent => Precision::Absent,
         }
     }
@@ -56,8 +50,7 @@ pub trait Kind<E: Copy, S: Copy> {
     ghost read_back: { (v : Self.Value) → part (wrapped v) ≡ Some v };
 }
 
-// Each kind names its own variant.
-
+// Four impls, since each names its own variant.
 pub struct Flags;
 
 pub struct Elements;

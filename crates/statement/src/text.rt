@@ -114,9 +114,7 @@ where
             return Err(ParseStatementError::NoSign);
         };
         let stat = Stat::from_str(name)?;
-        match read_claim::<E, S>(stat, text) {
-            Some(claim) => Ok(Statement { stat, claim }),
-            None => Err(ParseStatementError::NoClaim),
-        }
+        let claim = read_claim::<E, S>(stat, text).ok_or(ParseStatementError::NoClaim)?;
+        Ok(Statement { stat, claim })
     }
 }

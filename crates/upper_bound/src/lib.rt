@@ -76,6 +76,7 @@ impl<T: Ordered> StatBound<T> for UpperBound<T> {
         Some(UpperBound(Self::union_of(self.0, other.0)?))
     }
 
+    // The claim that both bounds come to, in the type of this one; the other bound differs in the type alone.
     fn intersection(&self, other: &Self) -> Option<IntersectionResult<Self>> {
         Some(match Self::intersection_of(self.0, other.0)? {
             IntersectionResult::Value(claim) => IntersectionResult::Value(UpperBound(claim)),

@@ -12,6 +12,7 @@ ghost use Rattle.rules.specs.Rows.{Row};
 ghost use Rattle.rules.specs.Truth.{AllHold};
 ghost use Rattle.rules.specs.Claims.{takes, may_set};
 ghost use Rattle.rules.specs.Sets.{got, put, without, retained};
+ghost use Rattle.statement.specs.Kinds.{parted};
 ghost use Rattle.set.specs.Viewed.{column_of, entries};
 ghost use Rattle.claims.proofs.Views.{entries_proper};
 
@@ -23,6 +24,7 @@ use refusal::Refusal;
 use rules::element::Element;
 use rules::provider::StatsProvider;
 use stat::Stat;
+use statement::kind::Kind;
 use statement::{StatValue, Statement};
 
 impl<E: Element> StatsSet<E, E::Sum> {
@@ -131,6 +133,13 @@ impl<E: Element> StatsSet<E, E::Sum> {
     {
         self.claims.claim(stat)
     }
+
+    // The claim of a statistic as one of a kind, absent where there is none of that kind.
+    pub fn get_as<K: Kind<E, E::Sum>>(&self, stat: Stat) -> Precision<K::Value>
+        ensures { result ≡ parted K.part (got (entries self.now) stat) }
+    {
+        K::claim_in(self.get(stat))
+    }
 }
 
 // A set tells its entries in order.
@@ -154,8 +163,7 @@ fn may_set<E: Element>(stat: Stat, claim: Precision<StatValue<E, E::Sum>>) -> bo
     ensures { result ≡ may_set E.Element.sums.has_sums stat claim }
 {
     match claim {
-        Precision::Exact(value) => is_kind::<E>(stat, value),
-        Precision::Inexact(value) => is_kind::<E>(stat, value),
+        Precision::Exact(value) | Precision::Inexact(value) => is_kind::<E>(stat, value),
         Precision::Absent => true,
     }
 }

@@ -1,5 +1,4 @@
-use Rattle.std.proofs.Common.{Some, None, Ok, Err, refl}
-use Rattle.statement.specs.declared.text.ParseStatementError.TheVariants.{NoClaim}
+use Rattle.std.proofs.Common.{rules, Ok}
 use Rattle.statement.proofs.Texts.{reads_whole, reads_parted}
 use Rattle.statement.proofs.text.StatementFromStr.from_str.Goals as goal
 
@@ -7,10 +6,10 @@ pub returns-in_default : goal.returns-in_default
 returns-in_default g c =
     reads_whole g.E.FromStr.from_str_gives g.S.FromStr.from_str_gives c.args.word.now c.in_default.ensures.cases
 
-pub returns-in-Some-read_claim : goal.returns-in-Some-read_claim
-returns-in-Some-read_claim g c =
-    reads_parted g.E.FromStr.from_str_gives g.S.FromStr.from_str_gives c.args.word.now c.in-Some.name c.in-Some.text c.in-Some.ensures.cases (Ok c.in_ok-stat.stat) _ c.in_ok-stat.ensures (Some c.in-Some-read_claim.claim, c.in-Some-read_claim.ensures, refl)
+pub returns-in_err-claim : goal.returns-in_err-claim
+returns-in_err-claim g c =
+    reads_parted g.E.FromStr.from_str_gives g.S.FromStr.from_str_gives c.args.word.now c.in-Some.name c.in-Some.text c.in-Some.ensures.cases (Ok c.in_ok-stat.stat) _ c.in_ok-stat.ensures (c.read_claim.result, c.read_claim.ensures, search rules)
 
-pub returns-in-None : goal.returns-in-None
-returns-in-None g c =
-    reads_parted g.E.FromStr.from_str_gives g.S.FromStr.from_str_gives c.args.word.now c.in-Some.name c.in-Some.text c.in-Some.ensures.cases (Ok c.in_ok-stat.stat) (Err NoClaim) c.in_ok-stat.ensures (None, c.in-None.ensures, refl)
+pub returns : goal.returns
+returns g c =
+    reads_parted g.E.FromStr.from_str_gives g.S.FromStr.from_str_gives c.args.word.now c.in-Some.name c.in-Some.text c.in-Some.ensures.cases (Ok c.in_ok-stat.stat) _ c.in_ok-stat.ensures (c.read_claim.result, c.read_claim.ensures, search rules)
