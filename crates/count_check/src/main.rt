@@ -140,13 +140,12 @@ fn code_agrees(code: u32, len: usize) -> bool {
 }
 
 fn main(rt: HostRuntime) -> io::Result<()> {
-    // totals in a `for`: a `fold` whose closure filters gets no proof yet
-    let mut slices = 0u32;
-    let mut differ = 0usize;
-    for (len, codes) in [1u32, 4, 16, 64, 256].into_iter().enumerate() {
-        let wrong = (0..codes).filter(|code| !code_agrees(*code, len)).count();
-        slices = slices.wrapping_add(codes);
-        differ = differ.wrapping_add(wrong);
-    }
+    let (slices, differ) = [1u32, 4, 16, 64, 256]
+        .into_iter()
+        .enumerate()
+        .fold((0u32, 0usize), |(slices, differ), (len, codes)| {
+            let wrong = (0..codes).filter(|code| !code_agrees(*code, len)).count();
+            (slices.wrapping_add(codes), differ.wrapping_add(wrong))
+        });
     println!(rt; "{slices} slices counted, {differ} differ")
 }
