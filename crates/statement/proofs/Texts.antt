@@ -1,35 +1,29 @@
--- A statement that is read from its text.
-use Rattle.std.proofs.Common.{◌≡◌, ℕ, List, ◌∷◌, ◌++◌, length, Some, None, Err, Result, refl, subst, arith, length-append, Bor}
+-- A text that is parted at the first of one byte: what `split_once` gives.
+use Rattle.std.proofs.Common.{◌≡◌, ℕ, ◌<◌, List, ◌∷◌, ◌++◌, length, Some, None, subst, arith, length-append, Bor}
 use lib.Seq.{get_or-append_seam}
 use Rattle.std.proofs.lemmas.Str.Pattern.{IsSplitOnceResult, split_after, split_parts}
-use Rattle.stat.specs.declared.Stat.{Stat}
-use Rattle.statement.specs.declared.Statement.{Statement}
-use Rattle.stat.specs.declared.ParseStatError.{ParseStatError}
-use Rattle.stat.specs.Stats.{ReadsStat}
-use Rattle.statement.specs.declared.text.ParseStatementError.{ParseStatementError}
-use Rattle.statement.specs.declared.text.ParseStatementError.TheVariants.{NoSign as Unsigned}
-use Rattle.statement.specs.Reading.{NoSign, ReadsNamed, ReadsStatement}
+use Rattle.statement.specs.Parting.{Lacks, Parted}
 
--- a text with a `=` between two parts
-has_sign : (bs xs ys : List ℕ) → bs ≡ xs ++ (61 ∷ ys) → NoSign bs → ⊥
-has_sign bs xs ys e none =
-    subst NoSign e none (length xs) (simp length-append (omega arith)) (get_or-append_seam xs 61 ys 0)
+module _ {R : Type 0} (byte : ℕ) (ascii : byte < 128) (none : R → Type 0) (parts : List ℕ → List ℕ → R → Type 0) (bs : List ℕ) (r : R) where
+  -- a text with the byte between two parts
+  has_byte : (xs ys : List ℕ) → bs ≡ xs ++ (byte ∷ ys) → Lacks byte bs → ⊥
+  has_byte xs ys e lacks =
+      subst (Lacks byte) e lacks (length xs) (simp length-append (omega arith)) (get_or-append_seam xs byte ys 0)
 
-module _ {V S D E : Type 0} (element : List ℕ → Result V D → Type 0) (sum : List ℕ → Result S E → Type 0) where
-  -- a text that is not cut has no `=`
-  pub reads_whole : (bs : List ℕ) → IsSplitOnceResult 61 bs None → ReadsStatement element sum bs (Err Unsigned)
-  reads_whole bs cut =
-      let none = split_parts 61 bs None cut (omega arith) in
-      record { whole = λ _. refl; parted = λ xs ys e lacks. absurd (has_sign bs xs ys e none) }
+  -- a text that is not cut has none
+  pub reads_whole : IsSplitOnceResult byte bs None → none r → Parted byte none parts bs r
+  reads_whole cut p =
+      let lacks = split_parts byte bs None cut ascii in
+      record { whole = λ _. p; parted = λ xs ys e l. absurd (has_byte xs ys e lacks) }
 
-  module _ (bs : List ℕ) (before behind : Bor (List ℕ)) (cut : IsSplitOnceResult 61 bs (Some (before, behind))) where
-    pub reads_parted : (found : Result Stat ParseStatError) (r : Result (Statement V S) ParseStatementError) → ReadsStat before.now found → ReadsNamed element sum found behind.now r → ReadsStatement element sum bs r
-    reads_parted found r p q =
-        let parts = split_parts 61 bs (Some (before, behind)) cut (omega arith) in
+  module _ (before behind : Bor (List ℕ)) (cut : IsSplitOnceResult byte bs (Some (before, behind))) where
+    pub reads_parted : parts before.now behind.now r → Parted byte none parts bs r
+    reads_parted p =
+        let cuts = split_parts byte bs (Some (before, behind)) cut ascii in
         record {
-          whole = λ none. absurd (has_sign bs before.now behind.now parts.0 none);
+          whole = λ lacks. absurd (has_byte before.now behind.now cuts.0 lacks);
           parted =
               λ us vs d lacks.
-              let same = split_after 61 bs us vs (Some (before, behind)) cut (omega arith) d lacks in
-              (found, subst (λ t. ReadsStat t found) same.0 p, subst (λ t. ReadsNamed element sum found t r) same.1 q);
+              let same = split_after byte bs us vs (Some (before, behind)) cut ascii d lacks in
+              subst (λ t. parts t vs r) same.0 (subst (λ t. parts before.now t r) same.1 p);
         }

@@ -1,3 +1,4 @@
 pub mod Kinds
+pub mod Parting
 pub mod Reading
 pub mod Writing

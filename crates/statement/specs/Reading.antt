@@ -1,5 +1,5 @@
 -- How claims and statements are read.
-use Rattle.std.specs.Prelude.{◌≡◌, ℕ, ◌<◌, Bool, List, ◌∷◌, ◌++◌, length, Some, None, Ok, Err, Option, Result, ◌≢◌, slice_index}
+use Rattle.std.specs.Prelude.{◌≡◌, ℕ, Bool, List, Some, None, Ok, Err, Option, Result}
 use Rattle.std.specs.declared.num.ParseIntError.{ParseIntError}
 use Rattle.std.specs.declared.str.ParseBoolError.{ParseBoolError}
 use Rattle.std.specs.Str.Parse.{ExplainsUnsignedError, ParsesUnsigned, HasUnsignedDigitsIfOk, ParsesBool}
@@ -14,8 +14,9 @@ use Rattle.stat.specs.Stats.{ReadsStat}
 use Rattle.statement.specs.declared.StatValue.TheVariants.{Flag, Element, Sum, Count}
 use Rattle.statement.specs.declared.Statement.{Statement}
 use Rattle.statement.specs.declared.text.ParseStatementError.{ParseStatementError}
-use Rattle.statement.specs.declared.text.ParseStatementError.TheVariants.{NoSign as Unsigned, NoStat, NoClaim}
+use Rattle.statement.specs.declared.text.ParseStatementError.TheVariants.{NoSign, NoStat, NoClaim}
 use Rattle.statement.specs.Kinds.{Claim, stated}
+use Rattle.statement.specs.Parting.{Parted}
 
 -- the claim of what a text is read as, by a reader of values; nothing where that fails
 abbrev pub ReadsAs : {A E : Type 0} → (List ℕ → Result A E → Type 0) → List ℕ → Option (Precision A) → Type 0
@@ -36,10 +37,6 @@ ReadsFlag bs r = ParsesBool bs r
 -- what `u64` reads of a text
 abbrev pub ReadsU64 : List ℕ → Result ℕ ParseIntError → Type 0
 ReadsU64 bs r = ParsesUnsigned 64 10 bs r × ExplainsUnsignedError 10 bs r × HasUnsignedDigitsIfOk bs r
-
--- no `=`, whose code is 61
-abbrev pub NoSign : List ℕ → Type 0
-NoSign bs = (i : ℕ) → i < length bs → slice_index bs i ≢ 61
 
 module _ {V S D E : Type 0} (element : List ℕ → Result V D → Type 0) (sum : List ℕ → Result S E → Type 0) where
   -- a claim is read by its statistic's kind
@@ -68,7 +65,6 @@ module _ {V S D E : Type 0} (element : List ℕ → Result V D → Type 0) (sum 
   abbrev pub ReadsParts : List ℕ → List ℕ → Result (Statement V S) ParseStatementError → Type 0
   ReadsParts name claim r = (found : Result Stat ParseStatError) × ReadsStat name found × ReadsNamed found claim r
 
-  -- a statement is parted at its first `=`
-  pub record ReadsStatement (bs : List ℕ) (r : Result (Statement V S) ParseStatementError) : Type 0 where
-    pub whole : NoSign bs → r ≡ Err Unsigned
-    pub parted : (name claim : List ℕ) → bs ≡ name ++ (61 ∷ claim) → NoSign name → ReadsParts name claim r
+  -- a statement is parted at its first `=`, whose code is 61
+  abbrev pub ReadsStatement : List ℕ → Result (Statement V S) ParseStatementError → Type 0
+  ReadsStatement = Parted 61 (λ r. r ≡ Err NoSign) ReadsParts
