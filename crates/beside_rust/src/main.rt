@@ -111,7 +111,7 @@ impl<E: Element<Sum = Measure> + fmt::Display> fmt::Display for Outcome<E> {
     }
 }
 
-// What a request comes to, by its column.
+// What a request comes to, by its column. It is printed alike for either.
 #[derive(Drop)]
 enum Reply {
     Measures(Outcome<Measure>),

@@ -4,7 +4,6 @@ ghost use Rattle.std.specs.Int.Signed.{mag};
 ghost use Rattle.std.specs.Fmt.{signed_decimal};
 ghost use Rattle.columns.specs.Numbers.{ReadsI64, numbered};
 
-use std::alloc::AllocError;
 use std::fmt;
 use std::num::ParseIntError;
 use std::str::FromStr;
@@ -12,22 +11,11 @@ use std::str::FromStr;
 mod element;
 mod ordered;
 
-#[derive(Copy, PartialEq, Eq, PartialOrd, Ord, Debug)]
+#[derive(Clone, Copy, PartialEq, Eq, PartialOrd, Ord, Debug)]
 pub struct Measure {
     value: i64,
     // it is from -2 ^ 63 up to and without 2 ^ 63: `mag` is n of both n and -(n + 1)
     ghost held: { mag value < 2 ^ 63 },
-}
-
-// By hand, since it is not derived over a ghost field.
-impl Clone for Measure {
-    ghost is_clone = { λ x y. y ≡ x };
-
-    ghost is_infallible = { λ _. Unit {0} };
-
-    fn clone(&self) -> Result<Measure, AllocError> {
-        Ok(*self)
-    }
 }
 
 impl Measure {

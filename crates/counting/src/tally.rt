@@ -1,4 +1,5 @@
-// What counting keeps while it goes through the rows, and the set that it fills from that.
+// What counting keeps while it goes through the rows, and the set that it fills from that. Contracts take the order and the sums
+// by themselves: a tally has no column.
 ghost use Rattle.std.specs.Prelude.{◌≡◌, ◌+◌, ◌^◌, ◌<◌, Some as Just};
 ghost use Rattle.stat.specs.Stats.{all_stats};
 ghost use Rattle.rules.specs.Merging.{exactly};

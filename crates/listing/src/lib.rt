@@ -7,7 +7,7 @@ use std::alloc::AllocError;
 mod methods;
 
 // In the order in which they came. Entries past `len` are not in use. A table of its own, since a set is fixed memory that can
-// be copied: `ArrayVec` cannot, and its `push` asks for room.
+// be copied, and `ArrayVec` cannot.
 #[derive(Copy)]
 pub struct Listing<T, const CAP: usize> {
     items: [T; CAP],
@@ -16,7 +16,7 @@ pub struct Listing<T, const CAP: usize> {
     ghost fits: { len ≤ CAP },
 }
 
-// By hand, since it is not derived over a ghost field.
+// By hand, since it is not derived for a type with both a parameter and a ghost field.
 impl<T: Copy, const CAP: usize> Clone for Listing<T, CAP> {
     ghost is_clone = { λ x y. y ≡ x };
 

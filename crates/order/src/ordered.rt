@@ -1,4 +1,5 @@
-// A type any two values of which compare as below, equal or above.
+// A type any two values of which compare as below, equal or above. Each impl has the one line of `compare`, which says by what
+// order of the rules the type's own comparison goes.
 ghost use Rattle.std.specs.Prelude.{◌≡◌};
 ghost use Rattle.std.specs.declared.cmp.Ordering.{Ordering as Compared};
 ghost use Rattle.order.specs.Order.{OrderLaws, flag_order, count_order, integer_order};

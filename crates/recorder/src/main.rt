@@ -89,7 +89,7 @@ impl<E: Element<Sum = Measure> + fmt::Display> fmt::Display for Answer<E> {
     }
 }
 
-// The answer, by the column of the zones.
+// The answer, by the column of the zones. It is printed alike for either.
 #[derive(Drop)]
 enum Reply {
     Measures(Answer<Measure>),
@@ -117,19 +117,41 @@ where
     Ok(zone)
 }
 
+// A request on two sets of a column.
+#[derive(Clone, Copy)]
+struct Request<'a> {
+    column: &'a str,
+    name: &'a str,
+    first: &'a str,
+    second: &'a str,
+}
+
+impl<'a> Request<'a> {
+    // `COLUMN NAME | FIRST | SECOND`
+    fn read(text: &'a str) -> Result<Self, Unreadable> {
+        let (head, sets) = text.split_once('|').ok_or(Unreadable::NoSet)?;
+        let (first, second) = sets.split_once('|').ok_or(Unreadable::NoSecondSet)?;
+        let mut words = head.split_whitespace();
+        Ok(Request {
+            column: words.next().unwrap_or(""),
+            name: words.next().unwrap_or(""),
+            first,
+            second,
+        })
+    }
+}
+
 // What a request on two sets of a column comes to.
 fn carry_out<E: Element<Sum = Measure> + FromStr>(
-    request: &str,
-    first: &str,
-    second: &str,
+    request: Request<'_>,
 ) -> Result<Answer<E>, Unreadable>
 where
     E::Err: Drop,
 {
-    let mut zone = read_set::<E>(first)?;
-    let mut other = read_set::<E>(second)?;
+    let mut zone = read_set::<E>(request.first)?;
+    let mut other = read_set::<E>(request.second)?;
     let mut declined = None;
-    match request {
+    match request.name {
         "merge_ordered" => zone.merge_ordered(&other),
         "merge_unordered" => zone.merge_unordered(&other),
         "combine" => declined = zone.combine_sets(&mut other).err(),
@@ -140,14 +162,10 @@ where
 
 // What a line comes to.
 fn respond(text: &str) -> Result<Reply, Unreadable> {
-    let (head, sets) = text.split_once('|').ok_or(Unreadable::NoSet)?;
-    let (first, second) = sets.split_once('|').ok_or(Unreadable::NoSecondSet)?;
-    let mut words = head.split_whitespace();
-    let column = words.next().unwrap_or("");
-    let request = words.next().unwrap_or("");
-    match column {
-        "measure" => Ok(Reply::Measures(carry_out(request, first, second)?)),
-        "mark" => Ok(Reply::Marks(carry_out(request, first, second)?)),
+    let request = Request::read(text)?;
+    match request.column {
+        "measure" => Ok(Reply::Measures(carry_out(request)?)),
+        "mark" => Ok(Reply::Marks(carry_out(request)?)),
         _ => Err(Unreadable::NoColumn),
     }
 }

@@ -28,7 +28,7 @@ pub struct StatsSet<E: Element<Sum = S>, S: Copy> {
     ghost summed: { is_absent claims.sum ≡ false → E.Element.sums.has_sums ≡ true },
 }
 
-// By hand, since it is not derived over a ghost field.
+// By hand, since it is not derived for a type with both a parameter and a ghost field.
 impl<E: Element<Sum = S>, S: Copy> Clone for StatsSet<E, S> {
     ghost is_clone = { λ x y. y ≡ x };
 

@@ -16,8 +16,8 @@ use order::ordered::Ordered;
 use order::partial_ord::partial_min;
 use precision::precision::Precision;
 
-// What two bounds have in common: a bound, or no value at all. Named as in the Rust, and no `Option`, since it stands in one
-// whose `None` says that a side claims nothing.
+// What two bounds have in common: a bound, or no value at all. The Rust's type, and no `Option`, since it stands in one: bounds
+// may answer nothing where a side claims nothing.
 #[derive(Clone, Copy, PartialEq, Eq, Debug)]
 pub enum IntersectionResult<T> {
     Value(T),
@@ -99,6 +99,7 @@ impl<T: Ordered> StatBound<T> for Precision<T> {
         self
     }
 
+    // A match, no longer than `as_exact` of the lent claim.
     fn to_exact(&self) -> Option<&T> {
         match self {
             Precision::Exact(exact) => Some(exact),

@@ -116,7 +116,7 @@ impl<E: Element> StatsSet<E, E::Sum> {
         self.keep(&only(stats));
     }
 
-    // Keeps the entries that are marked, by number.
+    // Keeps the entries that are marked, by number. Marks, which it hands to both parts.
     fn keep(&mut self, keep: &[bool; 9])
         ensures { entries self.new ≡ retained (marked keep.now) (entries self.old) }
     {
