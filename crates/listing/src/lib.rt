@@ -1,6 +1,8 @@
 #![tactic(auto)]
 // A list of at most `CAP`: a table of that many entries, of which the first `len` are in use.
-ghost use Rattle.std.specs.Prelude.{◌≡◌, ◌≤◌};
+ghost use Rattle.std.specs.Prelude.{◌≡◌, ◌≤◌, ◌<◌, ℕ, slice_index_or};
+ghost use Rattle.std.specs.Array.{AllZipBelow};
+ghost use Rattle.std.specs.Array.Iter.{IntoIterFitsInMemory};
 
 use std::alloc::AllocError;
 
@@ -17,12 +19,15 @@ pub struct Listing<T, const CAP: usize> {
 }
 
 // By hand, since it is not derived for a type with both a parameter and a ghost field.
-impl<T: Copy, const CAP: usize> Clone for Listing<T, CAP> {
-    ghost is_clone = { λ x y. y ≡ x };
+impl<T: Clone, const CAP: usize> Clone for Listing<T, CAP> {
+    ghost is_clone = { λ x y. (AllZipBelow T.is_clone x.items y.items CAP) × (y.len ≡ x.len) };
 
-    ghost is_infallible = { λ _. Unit {0} };
+    ghost is_infallible = { λ x. IntoIterFitsInMemory T.row CAP.row × ((i : ℕ) (d : T) → i < CAP → T.is_infallible (slice_index_or x.items i d)) };
 
     fn clone(&self) -> Result<Self, AllocError> {
-        Ok(*self)
+        Ok(Listing {
+            items: self.items.clone()?,
+            len: self.len,
+        })
     }
 }
