@@ -9,6 +9,7 @@ ghost use Rattle.std.proofs.Common.{rules};
 
 use order::ordered::Ordered;
 use precision::precision::Precision;
+use precision::precision::Precision::Inexact;
 use stat_bound::side::Side;
 use stat_bound::{IntersectionResult, StatBound};
 use std::cmp::Ordering;
@@ -107,6 +108,13 @@ impl<T: Ordered> UpperBound<T> {
     pub fn partial_cmp_value(&self, other: &T) -> Option<Ordering>
         ensures { Compares T.order (UpperAllows T.order) (upper_compared T.order self.now.0 other.now) self.now.0 other.now result }
     {
-        Self::compared(self.0, *other)
+        match self.0 {
+            // one comparison: known alone where the bound is below the value
+            Inexact(limit) => match limit.compare(*other) {
+                Ordering::Less => Some(Ordering::Less),
+                _ => None,
+            },
+            known => Self::compared(known, *other),
+        }
     }
 }
