@@ -179,8 +179,11 @@ fn main(rt: HostRuntime) -> anyhow::Result<()> {
         return Ok(());
     }
     let heap = rt.alloc();
-    for (number, text) in (1u64..).zip(BufReader::new(heap, rt.stdin())?.lines(heap)) {
+    // by hand: a range of numbers ends
+    let mut number = 0u64;
+    for text in BufReader::new(heap, rt.stdin())?.lines(heap) {
         let text = text?;
+        number = number.saturating_add(1);
         let trimmed = text.as_str().trim();
         if trimmed.is_empty() || trimmed.starts_with('#') {
             continue;
