@@ -59,7 +59,7 @@ fn row(value: i64) -> Option<Measure>
 
 // Both counted, and the second merged into the first.
 fn merged(first: &[Option<Measure>], second: &[Option<Measure>]) -> StatsSet<Measure, Measure>
-    ensures { entries result ≡ united measure_column true (counts measure_column first.now) (counts measure_column second.now) }
+    ensures { entries true result ≡ united measure_column true (counts measure_column first.now) (counts measure_column second.now) }
 {
     let mut zone = count(first);
     zone.merge_ordered(&count(second));

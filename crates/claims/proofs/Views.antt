@@ -1,7 +1,8 @@
 -- A set's two parts as the list of its entries: what a change of the parts makes of the entries.
-use Rattle.std.proofs.Common.{◌≡◌, ℕ, ◌+◌, ◌<◌, Bool, true, false, cond, not, ◌&&◌, ltb, List, [], ◌∷◌, ◌++◌, length, get_or, set, take, filter, sym, refl, ap, ◌∙◌, subst, arith, get_or-set_other, get_or-set_same}
-use Rattle.std.proofs.lemmas.Bool.{true≢false, cond_both, cond-true, cond-false, lt-ltb, and_parts, and_from, not-true, eqb-true, eqb-false}
+use Rattle.std.proofs.Common.{◌≡◌, ℕ, ◌+◌, ◌<◌, Bool, true, false, cond, not, ◌&&◌, ◌||◌, ltb, ◌⊎◌, List, [], ◌∷◌, ◌++◌, length, get_or, set, take, filter, sym, refl, ap, ◌∙◌, subst, inl, inr, arith, get_or-set_other, get_or-set_same}
+use Rattle.std.proofs.lemmas.Bool.{true≢false, false≢true, cond_both, cond-true, cond-false, lt-ltb, and_parts, and_from, not-true, eqb-true, eqb-false}
 use Rattle.std.proofs.lemmas.List.{take_more, map-append}
+use Rattle.std.proofs.lemmas.List.Elements.{filter-append}
 use Rattle.precision.specs.declared.precision.Precision.{Precision}
 use Rattle.precision.specs.declared.precision.Precision.TheVariants.{Exact, Inexact, Absent}
 use Rattle.precision.specs.Claims.{is_absent, mapped}
@@ -10,14 +11,14 @@ use Rattle.stat.specs.declared.Stat.TheVariants.{IsConstant, IsSorted, IsStrictS
 use Rattle.stat.specs.Stats.{stat_number, same_stat}
 use Rattle.statement.specs.declared.StatValue.TheVariants.{Flag, Element, Sum, Count}
 use Rattle.rules.specs.Rows.{Every}
-use Rattle.rules.specs.Claims.{some?, settable, may_set}
-use Rattle.statement.specs.Kinds.{Claim, sum_in, stated}
+use Rattle.rules.specs.Claims.{settable, may_set}
+use Rattle.statement.specs.Kinds.{Claim, stated}
 use Rattle.rules.specs.Sets.{Entries, got, has, without, retained, replaced, put, Apart, AllSettable, Proper}
 use Rattle.rules.proofs.Claims.{kind_settable}
 use Rattle.rules.proofs.Sets.{same_stat_is, stat_itself, neither}
 use Rattle.listing.specs.Marks.{marked}
 use Rattle.claims.specs.declared.Claims.{Claims}
-use Rattle.claims.specs.Entries.{claim_in, with_claim, kept_claims, has_stat, distinct, if_kept, entries_of}
+use Rattle.claims.specs.Entries.{claim_in, with_claim, kept_claims, has_stat, distinct, entries_of, counts}
 use Rattle.claims.proofs.Lists.{has_kept, has_added, distinct_kept, distinct_added, room_for}
 use Rattle.claims.proofs.Claiming.{number_small, claim_with, claim_kept}
 
@@ -62,64 +63,52 @@ module _ {V S : Type 0} where
       go true w ih = λ i. stated t (w i) ∷ ih i
       go false w ih = ih
 
-mapped_there : {A B : Type 0} (f : A → B) (x : Precision A) → is_absent (mapped f x) ≡ false → is_absent x ≡ false
-mapped_there f (Exact v) a = a
-mapped_there f (Inexact v) a = a
-mapped_there f Absent a = a
+-- two filters, in either order
+kept_twice : {X : Type 0} (p q : X → Bool) (xs : List X) → filter p (filter q xs) ≡ filter q (filter p xs)
+kept_twice p q [] = refl
+kept_twice p q (x ∷ xs) = go (p x) refl (q x) refl (kept_twice p q xs)
+  where
+    go : (a : Bool) → p x ≡ a → (b : Bool) → q x ≡ b → filter p (filter q xs) ≡ filter q (filter p xs) → filter p (cond b (x ∷ filter q xs) (filter q xs)) ≡ filter q (cond a (x ∷ filter p xs) (filter p xs))
+    go true e true f ih = rw e (rw f (ap (λ l. x ∷ l) ih))
+    go true e false f ih = rw f ih
+    go false e true f ih = rw e ih
+    go false e false f ih = ih
 
--- a sum that may be set stands where there are sums
-with_summed : {V S : Type 0} (sums : Bool) (c : Claims V S) → (is_absent c.sum ≡ false → sums ≡ true) → (s : Stat) (x : Claim V S) → may_set sums s x ≡ true → is_absent x ≡ false → is_absent (with_claim c s x).sum ≡ false → sums ≡ true
-with_summed sums c summed IsConstant x m t = summed
-with_summed sums c summed IsSorted x m t = summed
-with_summed sums c summed IsStrictSorted x m t = summed
-with_summed sums c summed Max x m t = summed
-with_summed sums c summed Min x m t = summed
-with_summed sums c summed Total (Exact v) m t = λ _. (and_parts sums (some? (sum_in v)) m).0
-with_summed sums c summed Total (Inexact v) m t = λ _. (and_parts sums (some? (sum_in v)) m).0
-with_summed sums c summed Total Absent m t = absurd (true≢false t)
-with_summed sums c summed NullCount x m t = summed
-with_summed sums c summed UncompressedSizeInBytes x m t = summed
-with_summed sums c summed NaNCount x m t = summed
+-- What ties claims and statistics together: none is listed twice, and those are listed of which there is a claim.
+abbrev pub Tied : {V S : Type 0} → Claims V S → List Stat → Type 0
+Tied c ss = (distinct ss ≡ true) × ((s : Stat) → has_stat ss s ≡ not (is_absent (claim_in c s)))
 
--- What ties claims and statistics together: none is listed twice, those are listed of which there is a claim, and a sum only where there are sums.
-pub record Tied {V S : Type 0} (sums : Bool) (c : Claims V S) (ss : List Stat) : Type 0 where
-  pub once : distinct ss ≡ true
-  pub present : (s : Stat) → has_stat ss s ≡ not (is_absent (claim_in c s))
-  pub summed : is_absent c.sum ≡ false → sums ≡ true
+module _ {V S : Type 0} (sums : Bool) (c : Claims V S) (ss : List Stat) (tied : Tied c ss) where
+  abbrev shown : List Stat
+  shown = filter (counts sums) ss
 
-module _ {V S : Type 0} (sums : Bool) (c : Claims V S) (ss : List Stat) (tied : Tied sums c ss) where
-  -- the claim that is told of a statistic is the one that is there
-  pub got_entries : (s : Stat) → got (entries_of c ss) s ≡ claim_in c s
-  got_entries s = got_of c ss s ∙ ap (λ b. cond b (claim_in c s) Absent) (tied.present s) ∙ go (claim_in c s)
+  has_shown : (s : Stat) → has_stat shown s ≡ (counts sums s && not (is_absent (claim_in c s)))
+  has_shown s = has_kept (counts sums) ss s ∙ ap (λ b. counts sums s && b) (tied.1 s)
+
+  -- the claim that is told of a statistic that counts is the one that is there
+  pub got_shown : (s : Stat) → got (entries_of c shown) s ≡ cond (counts sums s) (claim_in c s) Absent
+  got_shown s = got_of c shown s ∙ ap (λ b. cond b (claim_in c s) Absent) (has_shown s) ∙ go (counts sums s) (claim_in c s)
     where
-      go : (x : Claim V S) → cond (not (is_absent x)) x Absent ≡ x
-      go (Exact v) = refl
-      go (Inexact v) = refl
-      go Absent = refl
+      go : (b : Bool) (x : Claim V S) → cond (b && not (is_absent x)) x Absent ≡ cond b x Absent
+      go true (Exact v) = refl
+      go true (Inexact v) = refl
+      go true Absent = refl
+      go false x = refl
 
   -- a filter of both parts
   module _ (k : List Bool) where
-    pub keep_tied : Tied sums (kept_claims k c) (filter (marked k) ss)
-    keep_tied =
-        record {
-          once = distinct_kept (marked k) ss tied.once;
-          present = λ s. has_kept (marked k) ss s ∙ ap (λ b. marked k s && b) (tied.present s) ∙ go (marked k s) (claim_in c s) ∙ sym (ap (λ x. not (is_absent x)) (claim_kept k c s));
-          summed = λ a. tied.summed (there (marked k Total) c.sum a);
-        }
+    pub keep_tied : Tied (kept_claims k c) (filter (marked k) ss)
+    keep_tied = (distinct_kept (marked k) ss tied.0, λ s. has_kept (marked k) ss s ∙ ap (λ b. marked k s && b) (tied.1 s) ∙ go (marked k s) (claim_in c s) ∙ sym (ap (λ x. not (is_absent x)) (claim_kept k c s)))
       where
         go : (b : Bool) (x : Claim V S) → (b && not (is_absent x)) ≡ not (is_absent (cond b x Absent))
         go true x = refl
         go false x = refl
 
-        there : (b : Bool) (x : Precision S) → is_absent (if_kept b x) ≡ false → is_absent x ≡ false
-        there true x a = a
-        there false x a = absurd (true≢false a)
-
-    pub keep_entries : entries_of (kept_claims k c) (filter (marked k) ss) ≡ retained (marked k) (entries_of c ss)
-    keep_entries = of_kept c (kept_claims k c) (marked k) (claim_kept k c) ss
+    pub keep_entries : entries_of (kept_claims k c) (filter (counts sums) (filter (marked k) ss)) ≡ retained (marked k) (entries_of c shown)
+    keep_entries = ap (entries_of (kept_claims k c)) (kept_twice (counts sums) (marked k) ss) ∙ of_kept c (kept_claims k c) (marked k) (claim_kept k c) shown
 
   -- a claim written for a statistic, which is listed last if it was not there
-  module _ (s : Stat) (x : Claim V S) (may : may_set sums s x ≡ true) (there : is_absent x ≡ false) where
+  module _ (s : Stat) (x : Claim V S) (may : may_set sums s x ≡ true) (there : is_absent x ≡ false) (counted : counts sums s ≡ true) where
     abbrev written : Claims V S
     written = with_claim c s x
 
@@ -130,10 +119,10 @@ module _ {V S : Type 0} (sums : Bool) (c : Claims V S) (ss : List Stat) (tied : 
     told = claim_with sums c s x may
 
     pub put_room : is_absent (claim_in c s) ≡ true → length ss < 9
-    put_room a = room_for ss s tied.once (tied.present s ∙ ap not a)
+    put_room a = room_for ss s tied.0 (tied.1 s ∙ ap not a)
 
     put_once : distinct listing ≡ true
-    put_once = cond_both (is_absent (claim_in c s)) (ss ++ (s ∷ [])) ss (λ l. distinct l ≡ true) (λ a. distinct_added ss s tied.once (tied.present s ∙ ap not a)) (λ _. tied.once)
+    put_once = cond_both (is_absent (claim_in c s)) (ss ++ (s ∷ [])) ss (λ l. distinct l ≡ true) (λ a. distinct_added ss s tied.0 (tied.1 s ∙ ap not a)) (λ _. tied.0)
 
     put_present : (t : Stat) → has_stat listing t ≡ not (is_absent (claim_in written t))
     put_present t = go (is_absent (claim_in c s)) refl (same_stat s t) refl ∙ sym (ap (λ y. not (is_absent y)) (told t))
@@ -148,35 +137,38 @@ module _ {V S : Type 0} (sums : Bool) (c : Claims V S) (ss : List Stat) (tied : 
 
         go : (a : Bool) → is_absent (claim_in c s) ≡ a → (b : Bool) → same_stat s t ≡ b → has_stat (cond a (ss ++ (s ∷ [])) ss) t ≡ not (is_absent (cond b x (claim_in c t)))
         go true e true f = has_added ss s t ∙ ap (λ b. cond b true (has_stat ss t)) (turned true f) ∙ sym (ap not there)
-        go true e false f = has_added ss s t ∙ ap (λ b. cond b true (has_stat ss t)) (turned false f) ∙ tied.present t
-        go false e true f = ap (has_stat ss) (sym (same_stat_is s t f)) ∙ tied.present s ∙ ap not e ∙ sym (ap not there)
-        go false e false f = tied.present t
+        go true e false f = has_added ss s t ∙ ap (λ b. cond b true (has_stat ss t)) (turned false f) ∙ tied.1 t
+        go false e true f = ap (has_stat ss) (sym (same_stat_is s t f)) ∙ tied.1 s ∙ ap not e ∙ sym (ap not there)
+        go false e false f = tied.1 t
 
-    pub put_tied : Tied sums written listing
-    put_tied = record { once = put_once; present = put_present; summed = with_summed sums c tied.summed s x may there }
+    pub put_tied : Tied written listing
+    put_tied = (put_once, put_present)
 
-    has_told : has (entries_of c ss) s ≡ not (is_absent (claim_in c s))
-    has_told = has_of c ss s ∙ tied.present s
+    has_told : has (entries_of c shown) s ≡ not (is_absent (claim_in c s))
+    has_told = has_of c shown s ∙ has_shown s ∙ ap (λ b. b && not (is_absent (claim_in c s))) counted
 
-    pub put_entries : entries_of written listing ≡ put (entries_of c ss) s x
+    pub put_entries : entries_of written (filter (counts sums) listing) ≡ put (entries_of c shown) s x
     put_entries =
-        cond_both (is_absent (claim_in c s)) (ss ++ (s ∷ [])) ss (λ l. entries_of written l ≡ put (entries_of c ss) s x)
-        (λ a. added a ∙ sym (as_added a)) (λ a. of_replaced c written s x told ss ∙ sym (as_replaced a))
+        cond_both (is_absent (claim_in c s)) (ss ++ (s ∷ [])) ss (λ l. entries_of written (filter (counts sums) l) ≡ put (entries_of c shown) s x)
+        (λ a. added a ∙ sym (as_added a)) (λ a. of_replaced c written s x told shown ∙ sym (as_replaced a))
       where
-        as_there : put (entries_of c ss) s x ≡ cond (has (entries_of c ss) s) (replaced (entries_of c ss) s x) (entries_of c ss ++ (stated s x ∷ []))
-        as_there = cond-false (is_absent x) (without (entries_of c ss) s) _ there
+        as_there : put (entries_of c shown) s x ≡ cond (has (entries_of c shown) s) (replaced (entries_of c shown) s x) (entries_of c shown ++ (stated s x ∷ []))
+        as_there = cond-false (is_absent x) (without (entries_of c shown) s) _ there
 
-        as_added : is_absent (claim_in c s) ≡ true → put (entries_of c ss) s x ≡ entries_of c ss ++ (stated s x ∷ [])
-        as_added a = as_there ∙ cond-false (has (entries_of c ss) s) _ _ (has_told ∙ ap not a)
+        as_added : is_absent (claim_in c s) ≡ true → put (entries_of c shown) s x ≡ entries_of c shown ++ (stated s x ∷ [])
+        as_added a = as_there ∙ cond-false (has (entries_of c shown) s) _ _ (has_told ∙ ap not a)
 
-        as_replaced : is_absent (claim_in c s) ≡ false → put (entries_of c ss) s x ≡ replaced (entries_of c ss) s x
-        as_replaced a = as_there ∙ cond-true (has (entries_of c ss) s) _ _ (has_told ∙ ap not a)
+        as_replaced : is_absent (claim_in c s) ≡ false → put (entries_of c shown) s x ≡ replaced (entries_of c shown) s x
+        as_replaced a = as_there ∙ cond-true (has (entries_of c shown) s) _ _ (has_told ∙ ap not a)
 
         last_told : claim_in written s ≡ x
         last_told = told s ∙ ap (λ b. cond b x (claim_in c s)) (stat_itself s)
 
-        added : is_absent (claim_in c s) ≡ true → entries_of written (ss ++ (s ∷ [])) ≡ entries_of c ss ++ (stated s x ∷ [])
-        added a = map-append (λ t. stated t (claim_in written t)) ss (s ∷ []) ∙ (λ i. of_others c written s x told ss (tied.present s ∙ ap not a) i ++ (stated s (last_told i) ∷ []))
+        added : is_absent (claim_in c s) ≡ true → entries_of written (filter (counts sums) (ss ++ (s ∷ []))) ≡ entries_of c shown ++ (stated s x ∷ [])
+        added a =
+            ap (entries_of written) (filter-append (counts sums) ss (s ∷ []) ∙ ap (λ l. shown ++ l) (cond-true (counts sums s) (s ∷ []) [] counted))
+            ∙ map-append (λ t. stated t (claim_in written t)) shown (s ∷ [])
+            ∙ (λ i. of_others c written s x told shown (has_shown s ∙ ap (λ b. b && not (is_absent (claim_in c s))) counted ∙ ap not a) i ++ (stated s (last_told i) ∷ []))
 
 -- clearing is keeping all the others
 pub retained_others : {V S : Type 0} (es : Entries V S) (s : Stat) (keep : Stat → Bool) → ((t : Stat) → keep t ≡ not (same_stat s t)) → retained keep es ≡ without es s
@@ -198,21 +190,25 @@ listed_every P (t ∷ ts) h = (h t (ap (λ b. cond b true (has_stat ts t)) (stat
 
 -- what a set holds is what a set takes
 module _ {V S : Type 0} (sums : Bool) where
-  kinds : (c : Claims V S) → (is_absent c.sum ≡ false → sums ≡ true) → (s : Stat) → is_absent (claim_in c s) ≡ false → settable sums s (claim_in c s) ≡ true
-  kinds c summed IsConstant a = kind_settable sums IsConstant Flag (λ v. refl) c.is_constant a
-  kinds c summed IsSorted a = kind_settable sums IsSorted Flag (λ v. refl) c.is_sorted a
-  kinds c summed IsStrictSorted a = kind_settable sums IsStrictSorted Flag (λ v. refl) c.is_strict_sorted a
-  kinds c summed Max a = kind_settable sums Max Element (λ v. refl) c.max a
-  kinds c summed Min a = kind_settable sums Min Element (λ v. refl) c.min a
-  kinds c summed Total a = kind_settable sums Total Sum (λ v. and_from sums true (summed (mapped_there Sum c.sum a)) refl) c.sum a
-  kinds c summed NullCount a = kind_settable sums NullCount Count (λ v. refl) c.null_count a
-  kinds c summed UncompressedSizeInBytes a = kind_settable sums UncompressedSizeInBytes Count (λ v. refl) c.uncompressed_size_in_bytes a
-  kinds c summed NaNCount a = kind_settable sums NaNCount Count (λ v. refl) c.nan_count a
+  kinds : (c : Claims V S) (s : Stat) → counts sums s ≡ true → is_absent (claim_in c s) ≡ false → settable sums s (claim_in c s) ≡ true
+  kinds c IsConstant k a = kind_settable sums IsConstant Flag (λ v. refl) c.is_constant a
+  kinds c IsSorted k a = kind_settable sums IsSorted Flag (λ v. refl) c.is_sorted a
+  kinds c IsStrictSorted k a = kind_settable sums IsStrictSorted Flag (λ v. refl) c.is_strict_sorted a
+  kinds c Max k a = kind_settable sums Max Element (λ v. refl) c.max a
+  kinds c Min k a = kind_settable sums Min Element (λ v. refl) c.min a
+  kinds c Total k a = kind_settable sums Total Sum (λ v. and_from sums true (summed sums k) refl) c.sum a
+    where
+      summed : (b : Bool) → (b || false) ≡ true → b ≡ true
+      summed true e = refl
+      summed false e = e
+  kinds c NullCount k a = kind_settable sums NullCount Count (λ v. refl) c.null_count a
+  kinds c UncompressedSizeInBytes k a = kind_settable sums UncompressedSizeInBytes Count (λ v. refl) c.uncompressed_size_in_bytes a
+  kinds c NaNCount k a = kind_settable sums NaNCount Count (λ v. refl) c.nan_count a
 
-  -- of a list of statistics that are all there
-  of_settable : (c : Claims V S) → (is_absent c.sum ≡ false → sums ≡ true) → (ts : List Stat) → Every (λ s. is_absent (claim_in c s) ≡ false) ts → AllSettable sums (entries_of c ts)
-  of_settable c summed [] h = tt
-  of_settable c summed (t ∷ ts) h = (kinds c summed t h.0, of_settable c summed ts h.1)
+  -- of a list of statistics that all count and are there
+  of_settable : (c : Claims V S) (ts : List Stat) → Every (λ s. (counts sums s ≡ true) × (is_absent (claim_in c s) ≡ false)) ts → AllSettable sums (entries_of c ts)
+  of_settable c [] h = tt
+  of_settable c (t ∷ ts) h = (kinds c t h.0.0 h.0.1, of_settable c ts h.1)
 
   of_apart : (c : Claims V S) (ts : List Stat) → distinct ts ≡ true → Apart (entries_of c ts)
   of_apart c [] d = tt
@@ -222,29 +218,80 @@ module _ {V S : Type 0} (sums : Bool) where
       others [] h = tt
       others (u ∷ us) h = let n = neither (same_stat t u) (has_stat us t) h in (n.0, others us n.1)
 
-  pub entries_proper : (c : Claims V S) (ss : List Stat) → Tied sums c ss → Proper sums (entries_of c ss)
-  entries_proper c ss tied =
+  pub shown_proper : (c : Claims V S) (ss : List Stat) → Tied c ss → Proper sums (entries_of c (filter (counts sums) ss))
+  shown_proper c ss tied =
       record {
-        settable = of_settable c tied.summed ss (listed_every (λ s. is_absent (claim_in c s) ≡ false) ss (λ s h. not-true (is_absent (claim_in c s)) (sym (tied.present s) ∙ h)));
-        apart = of_apart c ss tied.once;
+        settable = of_settable c (filter (counts sums) ss) (listed_every (λ s. (counts sums s ≡ true) × (is_absent (claim_in c s) ≡ false)) (filter (counts sums) ss) there);
+        apart = of_apart c (filter (counts sums) ss) (distinct_kept (counts sums) ss tied.0);
       }
+    where
+      there : (s : Stat) → has_stat (filter (counts sums) ss) s ≡ true → (counts sums s ≡ true) × (is_absent (claim_in c s) ≡ false)
+      there s h = let parts = and_parts (counts sums s) (not (is_absent (claim_in c s))) (sym (has_shown sums c ss tied s) ∙ h) in (parts.0, not-true (is_absent (claim_in c s)) parts.1)
+
+-- a statistic of which a claim may be set counts
+pub may_count : {V S : Type 0} (sums : Bool) (s : Stat) (x : Claim V S) → may_set sums s x ≡ true → is_absent x ≡ false → counts sums s ≡ true
+may_count true s x m a = refl
+may_count false IsConstant x m a = refl
+may_count false IsSorted x m a = refl
+may_count false IsStrictSorted x m a = refl
+may_count false Max x m a = refl
+may_count false Min x m a = refl
+may_count false Total (Exact v) m a = m
+may_count false Total (Inexact v) m a = m
+may_count false Total Absent m a = absurd (true≢false a)
+may_count false NullCount x m a = refl
+may_count false UncompressedSizeInBytes x m a = refl
+may_count false NaNCount x m a = refl
+
+mapped_gone : {A B : Type 0} (f : A → B) (x : Precision A) → is_absent x ≡ true → is_absent (mapped f x) ≡ true
+mapped_gone f (Exact v) e = e
+mapped_gone f (Inexact v) e = e
+mapped_gone f Absent e = refl
+
+-- where there are sums, or no claim of one, every statistic that is listed counts
+kept_whole : (p : Stat → Bool) (ss : List Stat) → ((s : Stat) → has_stat ss s ≡ true → p s ≡ true) → filter p ss ≡ ss
+kept_whole p [] h = refl
+kept_whole p (t ∷ ss) h = cond-true (p t) (t ∷ filter p ss) (filter p ss) (h t (ap (λ b. cond b true (has_stat ss t)) (stat_itself t))) ∙ ap (λ l. t ∷ l) (kept_whole p ss (λ s e. h s (more (same_stat s t) e)))
+  where
+    more : (b : Bool) {d : Bool} → d ≡ true → cond b true d ≡ true
+    more true e = refl
+    more false e = e
+
+pub shown_whole : {V S : Type 0} (sums : Bool) (c : Claims V S) (ss : List Stat) → Tied c ss → (sums ≡ true) ⊎ (is_absent c.sum ≡ true) → ss ≡ filter (counts sums) ss
+shown_whole sums c ss tied (inl e) = sym (kept_whole (counts sums) ss (λ s h. ap (λ b. b || not (same_stat s Total)) e))
+shown_whole {S = S} sums c ss tied (inr a) = sym (kept_whole (counts sums) ss (λ s h. other s (sym (tied.1 s) ∙ h)))
+  where
+    sum_gone : is_absent (claim_in c Total) ≡ true
+    sum_gone = mapped_gone Sum c.sum a
+
+    other : (s : Stat) → not (is_absent (claim_in c s)) ≡ true → counts sums s ≡ true
+    other s h = go (same_stat s Total) refl sums
+      where
+        go : (b : Bool) → same_stat s Total ≡ b → (d : Bool) → (d || not b) ≡ true
+        go b e true = refl
+        go true e false = absurd (false≢true (sym (ap not sum_gone) ∙ ap (λ t. not (is_absent (claim_in c t))) (sym (same_stat_is s Total e)) ∙ h))
+        go false e false = refl
 
 -- The same of parts that are known by equations, as calls leave them.
 module _ {V S : Type 0} where
-  tied_at : (sums : Bool) {c d : Claims V S} {ss ts : List Stat} → c ≡ d → ss ≡ ts → Tied sums d ts → Tied sums c ss
-  tied_at sums {d = d} {ss = ss} e f t = subst (λ x. Tied sums x ss) (sym e) (subst (λ l. Tied sums d l) (sym f) t)
+  tied_at : {c d : Claims V S} {ss ts : List Stat} → c ≡ d → ss ≡ ts → Tied d ts → Tied c ss
+  tied_at {d = d} {ss = ss} e f t = subst (λ x. Tied x ss) (sym e) (subst (λ l. Tied d l) (sym f) t)
 
-  module _ (sums : Bool) (c : Claims V S) (ss : List Stat) (tied : Tied sums c ss) (d : Claims V S) (ts : List Stat) where
-    pub kept_after : (k : List Bool) → d ≡ kept_claims k c → ts ≡ filter (marked k) ss → Tied sums d ts × (entries_of d ts ≡ retained (marked k) (entries_of c ss))
-    kept_after k e f = (tied_at sums e f (keep_tied sums c ss tied k), (λ i. entries_of (e i) (f i)) ∙ keep_entries sums c ss tied k)
+  entries_at : (sums : Bool) {c d : Claims V S} {ss ts : List Stat} → c ≡ d → ss ≡ ts → entries_of c (filter (counts sums) ss) ≡ entries_of d (filter (counts sums) ts)
+  entries_at sums e f = λ i. entries_of (e i) (filter (counts sums) (f i))
 
-    pub put_after : (s : Stat) (x : Claim V S) → may_set sums s x ≡ true → is_absent x ≡ false → d ≡ with_claim c s x → ts ≡ cond (is_absent (claim_in c s)) (cond (ltb (length ss) 9) (ss ++ (s ∷ [])) ss) ss → Tied sums d ts × (entries_of d ts ≡ put (entries_of c ss) s x)
+  module _ (sums : Bool) (c : Claims V S) (ss : List Stat) (tied : Tied c ss) (d : Claims V S) (ts : List Stat) where
+    pub kept_after : (k : List Bool) → d ≡ kept_claims k c → ts ≡ filter (marked k) ss → Tied d ts × (entries_of d (filter (counts sums) ts) ≡ retained (marked k) (entries_of c (filter (counts sums) ss)))
+    kept_after k e f = (tied_at e f (keep_tied sums c ss tied k), entries_at sums e f ∙ keep_entries sums c ss tied k)
+
+    pub put_after : (s : Stat) (x : Claim V S) → may_set sums s x ≡ true → is_absent x ≡ false → d ≡ with_claim c s x → ts ≡ cond (is_absent (claim_in c s)) (cond (ltb (length ss) 9) (ss ++ (s ∷ [])) ss) ss → Tied d ts × (entries_of d (filter (counts sums) ts) ≡ put (entries_of c (filter (counts sums) ss)) s x)
     put_after s x may there e f =
+        let counted = may_count sums s x may there in
         let g : ts ≡ cond (is_absent (claim_in c s)) (ss ++ (s ∷ [])) ss = f ∙ room (is_absent (claim_in c s)) refl in
-        (tied_at sums e g (put_tied sums c ss tied s x may there), (λ i. entries_of (e i) (g i)) ∙ put_entries sums c ss tied s x may there)
+        (tied_at e g (put_tied sums c ss tied s x may there counted), entries_at sums e g ∙ put_entries sums c ss tied s x may there counted)
       where
         room : (b : Bool) → is_absent (claim_in c s) ≡ b → cond b (cond (ltb (length ss) 9) (ss ++ (s ∷ [])) ss) ss ≡ cond b (ss ++ (s ∷ [])) ss
-        room true a = cond-true (ltb (length ss) 9) (ss ++ (s ∷ [])) ss (lt-ltb (length ss) 9 (put_room sums c ss tied s x may there a))
+        room true a = cond-true (ltb (length ss) 9) (ss ++ (s ∷ [])) ss (lt-ltb (length ss) 9 (put_room sums c ss tied s x may there (may_count sums s x may there) a))
         room false a = refl
 
 -- a loop that marks what a list names: the marks of the front of it, and of one more

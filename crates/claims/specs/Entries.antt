@@ -1,5 +1,5 @@
 -- A set's claims by statistic, and its entries in the order of first setting.
-use Rattle.std.specs.Prelude.{Bool, true, false, cond, not, ◌&&◌, List, [], ◌∷◌, map, slice_index_or}
+use Rattle.std.specs.Prelude.{Bool, true, false, cond, not, ◌&&◌, ◌||◌, List, [], ◌∷◌, map, slice_index_or}
 use Rattle.precision.specs.declared.precision.Precision.{Precision}
 use Rattle.precision.specs.declared.precision.Precision.TheVariants.{Absent}
 use Rattle.precision.specs.Claims.{mapped}
@@ -50,3 +50,7 @@ distinct (t ∷ ts) = not (has_stat ts t) && distinct ts
 -- the statistics of a list, each with its claim
 abbrev pub entries_of : {V S : Type 0} → Claims V S → List Stat → Entries V S
 entries_of c = map (λ s. stated s (claim_in c s))
+
+-- a sum counts only where there are sums
+abbrev pub counts : Bool → Stat → Bool
+counts has_sums s = has_sums || not (same_stat s Total)

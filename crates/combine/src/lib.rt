@@ -7,7 +7,7 @@ ghost use Rattle.refusal.specs.Refusals.{refused, Declined};
 ghost use Rattle.rules.specs.Column.{column};
 ghost use Rattle.rules.specs.Claims.{settable, may_set};
 ghost use Rattle.rules.specs.Combining.{intersected};
-ghost use Rattle.set.specs.Viewed.{column_of, entries};
+ghost use Rattle.set.specs.Viewed.{entries};
 ghost use Rattle.combine.specs.Combined.{Combines, mapped_in};
 ghost use Rattle.stat_type.specs.Bounded.{narrowed};
 ghost use Rattle.statement.specs.Kinds.{parted};
@@ -38,7 +38,7 @@ pub trait CombineSets<E: Element> {
 }
 
 impl<E: Element> CombineSets<E> for StatsSet<E, E::Sum> {
-    ghost combines = { λ told x z r. Combines (column_of x) told (entries x) (entries z) r };
+    ghost combines = { λ told x z r. Combines (column E.Ordered.order E.Sum.Ordered.order E.Element.sums) told (entries E.Element.sums.has_sums x) (entries E.Element.sums.has_sums z) r };
 
     fn combine_sets<P: StatsProvider<E>>(&mut self, other: &mut P) -> Result<(), Refusal> {
         // a provider tells by place
@@ -57,8 +57,7 @@ impl<E: Element> CombineSets<E> for StatsSet<E, E::Sum> {
     }
 }
 
-// The claim that a set has of a statistic after one more statement of it; none where the two contradict each other. The
-// column by its parts: no set stands here to take it from.
+// The claim that a set has of a statistic after one more statement of it; none where the two contradict each other.
 fn joined<E: Element>(
     mine: Precision<StatValue<E, E::Sum>>,
     told: Statement<E, E::Sum>,

@@ -1,3 +1,4 @@
 pub mod Even
 pub mod Running
 pub mod Filling
+pub mod Telling

@@ -1,16 +1,16 @@
 -- What counting keeps while it goes through the rows, row after row, and the claims that it comes to.
-use Rattle.std.specs.Prelude.{ℕ, ◌+◌, ◌*◌, ◌^◌, Bool, true, false, cond, ◌&&◌, List, [], Some, None, fold, Option, ◌==◌, nat_lt}
+use Rattle.std.specs.Prelude.{ℕ, ◌+◌, ◌*◌, ◌^◌, Bool, true, false, cond, ◌&&◌, List, [], ◌∷◌, Some, None, fold, Option, ◌==◌, nat_lt}
 use Rattle.std.specs.declared.cmp.Ordering.{Ordering}
 use Rattle.order.specs.Order.{below, above, same, lesser, greater}
 use Rattle.precision.specs.declared.precision.Precision.{Precision}
 use Rattle.precision.specs.declared.precision.Precision.TheVariants.{Exact, Absent}
-use Rattle.precision.specs.Claims.{mapped}
+use Rattle.precision.specs.Claims.{mapped, is_absent}
 use Rattle.stat.specs.declared.Stat.{Stat}
 use Rattle.stat.specs.declared.Stat.TheVariants.{IsConstant, IsSorted, IsStrictSorted, Max, Min, Sum as Total, NullCount, UncompressedSizeInBytes, NaNCount}
 use Rattle.statement.specs.declared.StatValue.TheVariants.{Flag, Element, Sum, Count}
 use Rattle.rules.specs.Column.{Sums}
 use Rattle.rules.specs.Rows.{Row}
-use Rattle.statement.specs.Kinds.{Claim}
+use Rattle.statement.specs.Kinds.{Claim, stated}
 use Rattle.rules.specs.Merging.{exactly}
 use Rattle.rules.specs.Sets.{Entries, put}
 use Rattle.counting.specs.declared.tally.Seen.{Seen}
@@ -83,3 +83,8 @@ module _ {V S : Type 0} (order : V → V → Ordering) (sums : Sums V S) where
 -- the claims of several statistics, put in one after the other
 abbrev pub all_put : {V S : Type 0} → (Stat → Claim V S) → List Stat → Entries V S
 all_put f ss = fold (λ es s. put es s (f s)) [] ss
+
+-- the claims of a function that are there, in the order of the statistics
+abbrev pub present : {V S : Type 0} → (Stat → Claim V S) → List Stat → Entries V S
+present f [] = []
+present f (s ∷ ss) = cond (is_absent (f s)) (present f ss) (stated s (f s) ∷ present f ss)

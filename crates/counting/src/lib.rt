@@ -4,7 +4,7 @@ ghost use Rattle.std.specs.Prelude.{◌≡◌, fold};
 ghost use Rattle.rules.specs.Column.{column};
 ghost use Rattle.rules.specs.Counting.{counted};
 ghost use Rattle.rules.proofs.Counted.{counted_proper};
-ghost use Rattle.set.specs.Viewed.{column_of, entries};
+ghost use Rattle.set.specs.Viewed.{entries};
 ghost use Rattle.counting.specs.Counted.{Counts};
 ghost use Rattle.counting.specs.Tallied.{fresh, with_row};
 
@@ -19,7 +19,7 @@ mod tally;
 // The statistics of the rows by rising number, each with its exact claim. Without an element there is no greatest and no
 // least, where a running total does not fit no sum, and at 2^64 or more no size.
 pub fn count<E: Element>(rows: &[Option<E>]) -> StatsSet<E, E::Sum>
-    ensures { Counts (column_of result) rows.now (entries result) }
+    ensures { Counts (column E.Ordered.order E.Sum.Ordered.order E.Element.sums) rows.now (entries E.Element.sums.has_sums result) }
 {
     tallied(rows).set(rows.len() as u64)
 }
@@ -49,17 +49,16 @@ impl<'a, E: Element> LiveCount<'a, E> {
     }
 }
 
-// The column by its parts: no set stands here to take it from.
 impl<'a, E: Element> StatsProvider<E> for LiveCount<'a, E> {
     ghost told = { λ p. counted (column E.Ordered.order E.Sum.Ordered.order E.Element.sums) p.rows.now };
 
     ghost proper = { λ p. counted_proper (column E.Ordered.order E.Sum.Ordered.order E.Element.sums) p.rows.now };
 
     fn len(&mut self) -> usize {
-        count(self.rows).len()
+        tallied(self.rows).told_len(self.rows.len() as u64)
     }
 
     fn tell(&mut self, place: usize) -> Option<Statement<E, E::Sum>> {
-        count(self.rows).tell(place)
+        tallied(self.rows).told(self.rows.len() as u64, place)
     }
 }

@@ -1,10 +1,11 @@
 // What counting keeps while it goes through the rows, and the set that it fills from that. Contracts take the order and the sums
 // by themselves: a tally has no column.
-ghost use Rattle.std.specs.Prelude.{◌≡◌, ◌+◌, ◌^◌, ◌<◌, Some as Just};
+ghost use Rattle.std.specs.Prelude.{◌≡◌, ◌+◌, ◌^◌, ◌<◌, length, Some as Just};
+ghost use Rattle.std.specs.List.{slice_get};
 ghost use Rattle.stat.specs.Stats.{all_stats};
 ghost use Rattle.rules.specs.Merging.{exactly};
 ghost use Rattle.set.specs.Viewed.{entries};
-ghost use Rattle.counting.specs.Tallied.{seen_with, fresh, with_row, no_two, tally_claim, all_put};
+ghost use Rattle.counting.specs.Tallied.{seen_with, fresh, with_row, no_two, tally_claim, all_put, present};
 
 use order::ordered::Ordered;
 use order::partial_ord::{partial_max, partial_min};
@@ -12,8 +13,8 @@ use precision::precision::Precision;
 use rules::element::Element;
 use set::stats_set::StatsSet;
 use stat::Stat;
-use statement::StatValue;
 use statement::kind::{Counts, Elements, Flags, Kind, Sums};
+use statement::{StatValue, Statement};
 
 // The least, the greatest and the last element so far.
 #[derive(Clone, Copy)]
@@ -90,7 +91,7 @@ impl<E: Element> Tally<E, E::Sum> {
 
     // The set of the nine claims, for so many rows.
     pub(crate) fn set(self, rows: u64) -> StatsSet<E, E::Sum>
-        ensures { entries result ≡ all_put (tally_claim E.Ordered.order E.Element.sums self rows) all_stats }
+        ensures { entries E.Element.sums.has_sums result ≡ all_put (tally_claim E.Ordered.order E.Element.sums self rows) all_stats }
     {
         let mut set = StatsSet::<E, E::Sum>::new();
         for stat in Stat::all() {
@@ -98,6 +99,38 @@ impl<E: Element> Tally<E, E::Sum> {
             let _ = set.set(stat, self.claim(stat, rows));
         }
         set
+    }
+
+    // What is told at a place, for so many rows: the claims that there are, by rising number. No set is filled for it, which
+    // would take many times as long. A loop, here and below, since the check does not prove a chain of `filter` and `nth`.
+    pub(crate) fn told(self, rows: u64, place: usize) -> Option<Statement<E, E::Sum>>
+        ensures { result ≡ slice_get (present (tally_claim E.Ordered.order E.Element.sums self rows) all_stats) place }
+    {
+        let mut left = place;
+        for stat in Stat::all() {
+            let claim = self.claim(stat, rows);
+            if !claim.is_absent() {
+                if left == 0 {
+                    return Some(Statement { stat, claim });
+                }
+                left -= 1;
+            }
+        }
+        None
+    }
+
+    // How many claims there are.
+    pub(crate) fn told_len(self, rows: u64) -> usize
+        ensures { result ≡ length (present (tally_claim E.Ordered.order E.Element.sums self rows) all_stats) }
+    {
+        let mut len = 0usize;
+        for stat in Stat::all() {
+            let claim = self.claim(stat, rows);
+            if !claim.is_absent() {
+                len += 1;
+            }
+        }
+        len
     }
 
     // The claim of a statistic, for so many rows; absent where there is no element, no sum, or no size below 2^64.

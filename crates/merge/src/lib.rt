@@ -5,9 +5,10 @@ ghost use Rattle.statement.specs.declared.StatValue.TheVariants.{Flag};
 ghost use Rattle.statement.specs.Kinds.{flag_claim, element_claim};
 ghost use Rattle.stat.specs.declared.Stat.TheVariants.{Max, Min};
 ghost use Rattle.precision.specs.Claims.{mapped};
+ghost use Rattle.rules.specs.Column.{column};
 ghost use Rattle.rules.specs.Sets.{got};
 ghost use Rattle.rules.specs.Merging.{rule, sorted_rule};
-ghost use Rattle.set.specs.Viewed.{column_of, entries};
+ghost use Rattle.set.specs.Viewed.{entries};
 ghost use Rattle.leaves.specs.Comparing.{in_step};
 ghost use Rattle.merge.specs.Merged.{Merges};
 
@@ -33,7 +34,7 @@ pub trait MergeSets {
 }
 
 impl<E: Element> MergeSets for StatsSet<E, E::Sum> {
-    ghost merges = { λ in_order a b c. Merges (column_of a) in_order (entries a) (entries b) (entries c) };
+    ghost merges = { λ in_order a b c. Merges (column E.Ordered.order E.Sum.Ordered.order E.Element.sums) in_order (entries E.Element.sums.has_sums a) (entries E.Element.sums.has_sums b) (entries E.Element.sums.has_sums c) };
 
     fn merge_ordered(&mut self, other: &Self) {
         merge(self, other, true);
@@ -46,7 +47,7 @@ impl<E: Element> MergeSets for StatsSet<E, E::Sum> {
 
 // Statistic after statistic, by rising number, each on the entries as changed so far.
 fn merge<E: Element>(values: &mut StatsSet<E, E::Sum>, other: &StatsSet<E, E::Sum>, in_order: bool)
-    ensures { Merges (column_of values.old) in_order (entries values.old) (entries other.now) (entries values.new) }
+    ensures { Merges (column E.Ordered.order E.Sum.Ordered.order E.Element.sums) in_order (entries E.Element.sums.has_sums values.old) (entries E.Element.sums.has_sums other.now) (entries E.Element.sums.has_sums values.new) }
 {
     for stat in Stat::all() {
         let claim = merged(values, other, in_order, stat);
@@ -62,7 +63,7 @@ fn merged<E: Element>(
     in_order: bool,
     stat: Stat,
 ) -> Precision<StatValue<E, E::Sum>>
-    ensures { result ≡ rule (column_of mine.now) in_order (entries mine.now) (entries other.now) stat }
+    ensures { result ≡ rule (column E.Ordered.order E.Sum.Ordered.order E.Element.sums) in_order (entries E.Element.sums.has_sums mine.now) (entries E.Element.sums.has_sums other.now) stat }
 {
     match stat {
         Stat::IsConstant => Flags::claim(leaves::merge_constant(
@@ -102,7 +103,7 @@ fn sortedness<E: Element>(
     other: &StatsSet<E, E::Sum>,
     stat: Stat,
 ) -> Precision<StatValue<E, E::Sum>>
-    ensures { result ≡ mapped Flag (sorted_rule (in_step comparison E.Ordered.order) (flag_claim (got (entries mine.now) stat)) (flag_claim (got (entries other.now) stat)) (element_claim (got (entries mine.now) Max)) (element_claim (got (entries other.now) Min))) }
+    ensures { result ≡ mapped Flag (sorted_rule (in_step comparison E.Ordered.order) (flag_claim (got (entries E.Element.sums.has_sums mine.now) stat)) (flag_claim (got (entries E.Element.sums.has_sums other.now) stat)) (element_claim (got (entries E.Element.sums.has_sums mine.now) Max)) (element_claim (got (entries E.Element.sums.has_sums other.now) Min))) }
 {
     Flags::claim(leaves::merge_sortedness(
         comparison,

@@ -27,11 +27,10 @@ pub trait Question<E: Element> {
 
     // Whether a zone with these claims can be passed over.
     fn skip(&mut self, claims: &StatsSet<E, E::Sum>) -> bool
-        ensures answer { result ≡ skips self.old (entries claims.now) }
+        ensures answer { result ≡ skips self.old (entries E.Element.sums.has_sums claims.now) }
         ensures steady { (hits self.new ≡ hits self.old) × (skips self.new ≡ skips self.old) };
 
-    // Of any rows of which a set's claims are true, none matches where it says skip. The column by its parts:
-    // no set stands here to take it from.
+    // Of any rows of which a set's claims are true, none matches where it says skip.
     ghost honest: { (q : Self) → Honest (column E.Ordered.order E.Sum.Ordered.order E.Element.sums) (hits q) (skips q) };
 }
 

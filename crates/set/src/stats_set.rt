@@ -1,5 +1,5 @@
 // The set itself. What ties its two parts together holds of every set there is.
-ghost use Rattle.std.specs.Prelude.{◌≡◌, true, false, not};
+ghost use Rattle.std.specs.Prelude.{◌≡◌, true, not};
 ghost use Rattle.precision.specs.Claims.{is_absent};
 ghost use Rattle.stat.specs.declared.Stat.{Stat as Statistic};
 ghost use Rattle.listing.specs.Listed.{listed};
@@ -16,20 +16,19 @@ use std::alloc::AllocError;
 pub mod methods;
 pub mod text;
 
+// Whether there are sums is no part of it, so that whoever names a set needs no element type.
 #[derive(Copy)]
-pub struct StatsSet<E: Element<Sum = S>, S: Copy> {
+pub struct StatsSet<E, S> {
     claims: Claims<E, S>,
     order: Listing<Stat, 9>,
     // no statistic is listed twice
     ghost once: { distinct (listed order) ≡ true },
     // those are listed of which there is a claim
     ghost present: { (s : Statistic) → has_stat (listed order) s ≡ not (is_absent (claim_in claims s)) },
-    // a sum stands only where there are sums
-    ghost summed: { is_absent claims.sum ≡ false → E.Element.sums.has_sums ≡ true },
 }
 
 // By hand, since it is not derived for a type with both a parameter and a ghost field.
-impl<E: Element<Sum = S>, S: Copy> Clone for StatsSet<E, S> {
+impl<E: Copy, S: Copy> Clone for StatsSet<E, S> {
     ghost is_clone = { λ x y. y ≡ x };
 
     ghost is_infallible = { λ _. Unit {0} };

@@ -7,14 +7,15 @@ ghost use Rattle.listing.specs.Listed.{listed};
 ghost use Rattle.listing.specs.Marks.{marked};
 ghost use Rattle.precision.specs.Claims.{is_absent};
 ghost use Rattle.refusal.specs.Refusals.{refused, declined};
-ghost use Rattle.claims.specs.Entries.{claim_in, has_stat};
+ghost use Rattle.claims.specs.Entries.{claim_in, has_stat, counts};
+ghost use Rattle.rules.specs.Column.{column};
 ghost use Rattle.rules.specs.Rows.{Row};
 ghost use Rattle.rules.specs.Truth.{AllHold};
 ghost use Rattle.rules.specs.Claims.{takes, may_set};
 ghost use Rattle.rules.specs.Sets.{got, put, without, retained};
 ghost use Rattle.statement.specs.Kinds.{parted};
-ghost use Rattle.set.specs.Viewed.{column_of, entries};
-ghost use Rattle.claims.proofs.Views.{entries_proper};
+ghost use Rattle.set.specs.Viewed.{entries};
+ghost use Rattle.claims.proofs.Views.{shown_proper};
 
 use super::StatsSet;
 use claims::Claims;
@@ -30,7 +31,7 @@ use statement::{StatValue, Statement};
 impl<E: Element> StatsSet<E, E::Sum> {
     // A set with no entry.
     pub fn new() -> Self
-        ensures { entries result ≡ [] }
+        ensures { entries E.Element.sums.has_sums result ≡ [] }
     {
         StatsSet {
             claims: Claims::none(),
@@ -41,7 +42,7 @@ impl<E: Element> StatsSet<E, E::Sum> {
     // A set with one statement, or none where the claim is absent. Declines a value of another kind.
     pub fn of(stat: Stat, claim: Precision<StatValue<E, E::Sum>>) -> Result<Self, Refusal>
         ensures answer { refused result ≡ (if may_set E.Element.sums.has_sums stat claim then Nothing else declined 1 Nothing) }
-        ensures made { IfOk result (λ s. entries s ≡ put [] stat claim) }
+        ensures made { IfOk result (λ s. entries E.Element.sums.has_sums s ≡ put [] stat claim) }
     {
         let mut values = StatsSet::new();
         values.set(stat, claim)?;
@@ -50,13 +51,13 @@ impl<E: Element> StatsSet<E, E::Sum> {
 
     // How many entries there are.
     pub fn len(&self) -> usize
-        ensures { result ≡ length (entries self.now) }
+        ensures { result ≡ length (entries E.Element.sums.has_sums self.now) }
     {
-        self.order.len()
+        self.shown().len()
     }
 
     pub fn is_empty(&self) -> bool
-        ensures { result ≡ (length (entries self.now) == 0) }
+        ensures { result ≡ (length (entries E.Element.sums.has_sums self.now) == 0) }
     {
         self.len() == 0
     }
@@ -64,7 +65,7 @@ impl<E: Element> StatsSet<E, E::Sum> {
     // Replaces the claim in place, or adds it last; an absent one clears. Declines a value of another kind.
     pub fn set(&mut self, stat: Stat, claim: Precision<StatValue<E, E::Sum>>) -> Result<(), Refusal>
         ensures answer { refused result ≡ (if may_set E.Element.sums.has_sums stat claim then Nothing else declined 1 Nothing) }
-        ensures after { entries self.new ≡ (if may_set E.Element.sums.has_sums stat claim then put (entries self.old) stat claim else entries self.old) }
+        ensures after { entries E.Element.sums.has_sums self.new ≡ (if may_set E.Element.sums.has_sums stat claim then put (entries E.Element.sums.has_sums self.old) stat claim else entries E.Element.sums.has_sums self.old) }
     {
         if !may_set::<E>(stat, claim) {
             return Err(Refusal::WrongKind);
@@ -81,7 +82,7 @@ impl<E: Element> StatsSet<E, E::Sum> {
     fn put(&mut self, stat: Stat, claim: Precision<StatValue<E, E::Sum>>)
         requires may { may_set E.Element.sums.has_sums stat claim ≡ true }
         requires there { is_absent claim ≡ false }
-        ensures { entries self.new ≡ put (entries self.old) stat claim }
+        ensures { entries E.Element.sums.has_sums self.new ≡ put (entries E.Element.sums.has_sums self.old) stat claim }
     {
         let order = self.order_with(stat);
         let mut claims = self.claims;
@@ -102,23 +103,23 @@ impl<E: Element> StatsSet<E, E::Sum> {
 
     // Removes the entry of a statistic; the others keep their order, and what was true stays true.
     pub fn clear(&mut self, stat: Stat)
-        ensures after { entries self.new ≡ without (entries self.old) stat }
-        ensures truth { (rows : List (Row E)) → AllHold (column_of self.old) rows (entries self.old) → AllHold (column_of self.new) rows (entries self.new) }
+        ensures after { entries E.Element.sums.has_sums self.new ≡ without (entries E.Element.sums.has_sums self.old) stat }
+        ensures truth { (rows : List (Row E)) → AllHold (column E.Ordered.order E.Sum.Ordered.order E.Element.sums) rows (entries E.Element.sums.has_sums self.old) → AllHold (column E.Ordered.order E.Sum.Ordered.order E.Element.sums) rows (entries E.Element.sums.has_sums self.new) }
     {
         self.keep(&all_but(stat));
     }
 
     // Removes the entries that are not named; the others keep their order, and what was true stays true.
     pub fn retain_only(&mut self, stats: &[Stat])
-        ensures after { entries self.new ≡ retained (has_stat stats.now) (entries self.old) }
-        ensures truth { (rows : List (Row E)) → AllHold (column_of self.old) rows (entries self.old) → AllHold (column_of self.new) rows (entries self.new) }
+        ensures after { entries E.Element.sums.has_sums self.new ≡ retained (has_stat stats.now) (entries E.Element.sums.has_sums self.old) }
+        ensures truth { (rows : List (Row E)) → AllHold (column E.Ordered.order E.Sum.Ordered.order E.Element.sums) rows (entries E.Element.sums.has_sums self.old) → AllHold (column E.Ordered.order E.Sum.Ordered.order E.Element.sums) rows (entries E.Element.sums.has_sums self.new) }
     {
         self.keep(&only(stats));
     }
 
     // Keeps the entries that are marked, by number. Marks, which it hands to both parts.
     fn keep(&mut self, keep: &[bool; 9])
-        ensures { entries self.new ≡ retained (marked keep.now) (entries self.old) }
+        ensures { entries E.Element.sums.has_sums self.new ≡ retained (marked keep.now) (entries E.Element.sums.has_sums self.old) }
     {
         let mut claims = self.claims;
         let mut order = self.order;
@@ -129,14 +130,29 @@ impl<E: Element> StatsSet<E, E::Sum> {
 
     // The claim of a statistic, absent where there is none.
     pub fn get(&self, stat: Stat) -> Precision<StatValue<E, E::Sum>>
-        ensures { result ≡ got (entries self.now) stat }
+        ensures { result ≡ got (entries E.Element.sums.has_sums self.now) stat }
     {
-        self.claims.claim(stat)
+        if counted::<E>(stat) {
+            self.claims.claim(stat)
+        } else {
+            Precision::Absent
+        }
+    }
+
+    // The statistics of the entries, in order.
+    pub(crate) fn shown(&self) -> Listing<Stat, 9>
+        ensures { listed result ≡ filter (counts E.Element.sums.has_sums) (listed self.now.order) }
+    {
+        let mut order = self.order;
+        if !E::HAS_SUMS && !self.claims.sum.is_absent() {
+            order.retain(&all_but(Stat::Sum));
+        }
+        order
     }
 
     // The claim of a statistic as one of a kind, absent where there is none of that kind.
     pub fn get_as<K: Kind<E, E::Sum>>(&self, stat: Stat) -> Precision<K::Value>
-        ensures { result ≡ parted K.part (got (entries self.now) stat) }
+        ensures { result ≡ parted K.part (got (entries E.Element.sums.has_sums self.now) stat) }
     {
         K::claim_in(self.get(stat))
     }
@@ -144,16 +160,16 @@ impl<E: Element> StatsSet<E, E::Sum> {
 
 // A set tells its entries in order.
 impl<E: Element> StatsProvider<E> for StatsSet<E, E::Sum> {
-    ghost told = { λ s. entries s };
+    ghost told = { λ s. entries E.Element.sums.has_sums s };
 
-    ghost proper = { λ s. entries_proper E.Element.sums.has_sums s.claims (listed s.order) (record { once = s.once; present = s.present; summed = s.summed }) };
+    ghost proper = { λ s. shown_proper E.Element.sums.has_sums s.claims (listed s.order) (s.once, s.present) };
 
     fn len(&mut self) -> usize {
         StatsSet::len(self)
     }
 
     fn tell(&mut self, place: usize) -> Option<Statement<E, E::Sum>> {
-        let stat = self.order.get(place)?;
+        let stat = self.shown().get(place)?;
         Some(self.statement(stat))
     }
 }
@@ -184,6 +200,13 @@ fn is_kind<E: Element>(stat: Stat, value: StatValue<E, E::Sum>) -> bool
             StatValue::Count(_)
         ),
     }
+}
+
+// Whether the statistic counts: a sum only where there are sums.
+fn counted<E: Element>(stat: Stat) -> bool
+    ensures { result ≡ counts E.Element.sums.has_sums stat }
+{
+    E::HAS_SUMS || !stat.same(Stat::Sum)
 }
 
 // Every statistic is marked but one.

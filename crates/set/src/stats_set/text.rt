@@ -11,10 +11,11 @@ impl<E: Element + fmt::Display> fmt::Display for StatsSet<E, E::Sum>
 where
     E::Sum: fmt::Display,
 {
-    ghost output = { λ s. entries_text E.Display.output E.Sum.Display.output (entries s) };
+    ghost output = { λ s. entries_text E.Display.output E.Sum.Display.output (entries E.Element.sums.has_sums s) };
 
     fn fmt<W: fmt::Write>(&self, f: &mut fmt::Formatter<W>) -> fmt::Result {
-        let Some((first, others)) = self.order.as_slice().split_first() else {
+        let shown = self.shown();
+        let Some((first, others)) = shown.as_slice().split_first() else {
             return f.write_str("-");
         };
         write!(f, "{}", self.statement(*first))?;

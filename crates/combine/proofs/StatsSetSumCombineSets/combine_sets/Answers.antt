@@ -17,7 +17,7 @@ joined-requires g c =
     let sums = g.E.Element.sums.has_sums in
     let s = c.in-Some.told in
     record {
-      mine = subst (λ x. may_set sums s.stat x ≡ true) (sym c.get.ensures) (got_may sums (entries c.loop-place.self) (set_proper c.loop-place.self).settable s.stat);
+      mine = subst (λ x. may_set sums s.stat x ≡ true) (sym c.get.ensures) (got_may sums (entries sums c.loop-place.self) (set_proper sums c.loop-place.self).settable s.stat);
       told = told_settable sums (g.P.StatsProvider.told c.loop-place.other) c.loop-place.place s (g.met.P.StatsProvider.proper c.loop-place.other).settable c.in-Some.ensures.answer;
     }
 
@@ -29,16 +29,17 @@ returns-in_default g c =
 
 pub returns-in_default-joined : goal.returns-in_default-joined
 returns-in_default-joined g c =
+    let sums = g.E.Element.sums.has_sums in
     let k = column g.E.Ordered.order g.E.Sum.Ordered.order g.E.Element.sums in
     let laws : ColumnLaws k = record { ordered = g.met.E.Ordered.ordered; sums_ordered = g.met.E.Sum.Ordered.ordered; narrow = g.met.E.Element.narrow; summed = g.met.E.Element.summed } in
     let told = g.P.StatsProvider.told in
     let all = told c.len-len.new.self in
-    let e = entries c.args.self.now in
-    let es = entries c.loop-place.self in
-    let owed = combine_owed k all e laws (g.met.P.StatsProvider.proper c.len-len.new.self) (set_proper c.args.self.now) in
+    let e = entries sums c.args.self.now in
+    let es = entries sums c.loop-place.self in
+    let owed = combine_owed k all e laws (g.met.P.StatsProvider.proper c.len-len.new.self) (set_proper sums c.args.self.now) in
     let s = c.in-Some.told in
     let given = sym c.in_default-joined.is ∙ c.joined.ensures ∙ ap (λ m. cond (is_absent m) (Some s.claim) (intersected k s.stat m s.claim)) c.get.ensures in
-    let done = stops k all e c.loop-place.place es s (set_proper c.loop-place.self).settable c.loop-place.invariant.1 (c.in-Some.ensures.answer ∙ ap (λ l. slice_get l c.loop-place.place) c.loop-place.invariant.0) given in
+    let done = stops k all e c.loop-place.place es s (set_proper sums c.loop-place.self).settable c.loop-place.invariant.1 (c.in-Some.ensures.answer ∙ ap (λ l. slice_get l c.loop-place.place) c.loop-place.invariant.0) given in
     record {
       combined = subst (λ l. Combines k l e es (contradicted (Some s.stat))) c.len-len.ensures.steady (owed es (contradicted (Some s.stat)) done.0 done.1);
       steady = c.tell.ensures.steady ∙ c.loop-place.invariant.0 ∙ c.len-len.ensures.steady;
@@ -50,12 +51,12 @@ loop-place-preserved g c =
     let k = column g.E.Ordered.order g.E.Sum.Ordered.order g.E.Element.sums in
     let told = g.P.StatsProvider.told in
     let all = told c.len-len.new.self in
-    let e = entries c.args.self.now in
-    let es = entries c.loop-place.self in
+    let e = entries sums c.args.self.now in
+    let es = entries sums c.loop-place.self in
     let s = c.in-Some.told in
     let i = c.loop-place.place in
     let x = c.in-Some-joined.claim in
-    let proper = (set_proper c.loop-place.self).settable in
+    let proper = (set_proper sums c.loop-place.self).settable in
     let given = c.in-Some-joined.ensures ∙ ap (λ m. cond (is_absent m) (Some s.claim) (intersected k s.stat m s.claim)) c.get.ensures in
     let here = c.in-Some.ensures.answer ∙ ap (λ l. slice_get l i) c.loop-place.invariant.0 in
     let may = given_may k all e i es s proper c.loop-place.invariant.1 here (told_settable sums all i s (g.met.P.StatsProvider.proper c.len-len.new.self).settable here) x given in
@@ -63,13 +64,14 @@ loop-place-preserved g c =
 
 pub returns : goal.returns
 returns g c =
+    let sums = g.E.Element.sums.has_sums in
     let k = column g.E.Ordered.order g.E.Sum.Ordered.order g.E.Element.sums in
     let laws : ColumnLaws k = record { ordered = g.met.E.Ordered.ordered; sums_ordered = g.met.E.Sum.Ordered.ordered; narrow = g.met.E.Element.narrow; summed = g.met.E.Element.summed } in
     let told = g.P.StatsProvider.told in
     let all = told c.len-len.new.self in
-    let e = entries c.args.self.now in
-    let es = entries c.loop-place.self in
-    let owed = combine_owed k all e laws (g.met.P.StatsProvider.proper c.len-len.new.self) (set_proper c.args.self.now) in
+    let e = entries sums c.args.self.now in
+    let es = entries sums c.loop-place.self in
+    let owed = combine_owed k all e laws (g.met.P.StatsProvider.proper c.len-len.new.self) (set_proper sums c.args.self.now) in
     let done = ends k all e c.loop-place.place es c.loop-place.invariant.1 (omega (arith, ap length c.len-len.ensures.steady)) in
     record {
       combined = subst (λ l. Combines k l e es None) c.len-len.ensures.steady (owed es None done.0 done.1);

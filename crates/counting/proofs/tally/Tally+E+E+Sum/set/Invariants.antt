@@ -5,4 +5,4 @@ use Rattle.counting.proofs.tally.Tally+E+E+Sum.set.Given as goal
 
 abbrev pub invariant-loop-stat : goal.invariant-loop-stat
 invariant-loop-stat g l =
-    entries l.set ≡ all_put (tally_claim g.E.Ordered.order g.E.Element.sums l.self l.rows) (take l.stat-index l.stat-items)
+    entries g.E.Element.sums.has_sums l.set ≡ all_put (tally_claim g.E.Ordered.order g.E.Element.sums l.self l.rows) (take l.stat-index l.stat-items)
