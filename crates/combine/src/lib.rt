@@ -1,5 +1,5 @@
 #![tactic(auto)]
-// Combining statements about the same rows into a set.
+// Combining statements about the same rows into a set. Clauses take the column by its parts: a set names none.
 ghost use Rattle.std.specs.Prelude.{◌≡◌, true, List, if◌then◌else◌, Some as Just, Option as Maybe};
 ghost use Rattle.precision.specs.Claims.{is_absent};
 ghost use Rattle.statement.specs.declared.Statement.{Statement as Said};

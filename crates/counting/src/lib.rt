@@ -1,5 +1,5 @@
 #![tactic(auto)]
-// Counting rows: the true claim of each statistic, in one pass.
+// Counting rows: the true claim of each statistic, in one pass. Clauses take the column by its parts: a set names none.
 ghost use Rattle.std.specs.Prelude.{◌≡◌, fold};
 ghost use Rattle.rules.specs.Column.{column};
 ghost use Rattle.rules.specs.Counting.{counted};

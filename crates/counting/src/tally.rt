@@ -102,7 +102,8 @@ impl<E: Element> Tally<E, E::Sum> {
     }
 
     // What is told at a place, for so many rows: the claims that there are, by rising number. No set is filled for it, which
-    // would take many times as long. A loop, here and below, since the check does not prove a chain of `filter` and `nth`.
+    // takes many times as long for a few rows. A loop, here and below, since the check does not prove a chain of `filter` and
+    // `nth`.
     pub(crate) fn told(self, rows: u64, place: usize) -> Option<Statement<E, E::Sum>>
         ensures { result ≡ slice_get (present (tally_claim E.Ordered.order E.Element.sums self rows) all_stats) place }
     {

@@ -6,7 +6,7 @@ use Rattle.std.proofs.lemmas.List.Sums.{length-filter, count_by-le-length}
 use Rattle.listing.specs.declared.Listing.{Listing}
 use Rattle.listing.specs.Listed.{listed}
 
-pub listed_few : {T : Type 0} {CAP : ℕ} (l : Listing T CAP) → length (listed l) ≤ CAP
+pub listed_few : {T : Type 0} (l : Listing T) → length (listed l) ≤ 9
 listed_few l = simp length-take (omega (arith, l.fits))
 
 -- ys are those of the first i that passed

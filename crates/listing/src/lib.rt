@@ -1,8 +1,7 @@
 #![tactic(auto)]
-// A list of at most `CAP`: a table of that many entries, of which the first `len` are in use.
+// A list of at most nine: a table of nine entries, of which the first `len` are in use.
 ghost use Rattle.std.specs.Prelude.{◌≡◌, ◌≤◌, ◌<◌, ℕ, slice_index_or};
-ghost use Rattle.std.specs.Array.{AllZipBelow};
-ghost use Rattle.std.specs.Array.Iter.{IntoIterFitsInMemory};
+ghost use Rattle.listing.specs.Tables.{AtEach};
 
 use std::alloc::AllocError;
 
@@ -11,22 +10,34 @@ mod methods;
 // In the order in which they came. Entries past `len` are not in use. A table of its own, since a set is fixed memory that can
 // be copied, and `ArrayVec` cannot.
 #[derive(Copy)]
-pub struct Listing<T, const CAP: usize> {
-    items: [T; CAP],
+pub struct Listing<T> {
+    items: [T; 9],
     len: usize,
     // no more are in use than there are
-    ghost fits: { len ≤ CAP },
+    ghost fits: { len ≤ 9 },
 }
 
-// By hand, since it is not derived for a type with both a parameter and a ghost field.
-impl<T: Clone, const CAP: usize> Clone for Listing<T, CAP> {
-    ghost is_clone = { λ x y. (AllZipBelow T.is_clone x.items y.items CAP) × (y.len ≡ x.len) };
+// By hand, since it is not derived for a type with both a parameter and a ghost field; and entry by entry, since the clone of a
+// table is known not to fail only where an iterator over it fits in memory.
+impl<T: Clone> Clone for Listing<T> {
+    ghost is_clone = { λ x y. AtEach T.is_clone x.items y.items × (y.len ≡ x.len) };
 
-    ghost is_infallible = { λ x. IntoIterFitsInMemory T.row CAP.row × ((i : ℕ) (d : T) → i < CAP → T.is_infallible (slice_index_or x.items i d)) };
+    ghost is_infallible = { λ x. (i : ℕ) (d : T) → i < 9 → T.is_infallible (slice_index_or x.items i d) };
 
     fn clone(&self) -> Result<Self, AllocError> {
+        let [a, b, c, d, e, f, g, h, i] = &self.items;
         Ok(Listing {
-            items: self.items.clone()?,
+            items: [
+                a.clone()?,
+                b.clone()?,
+                c.clone()?,
+                d.clone()?,
+                e.clone()?,
+                f.clone()?,
+                g.clone()?,
+                h.clone()?,
+                i.clone()?,
+            ],
             len: self.len,
         })
     }

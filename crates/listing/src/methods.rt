@@ -7,13 +7,13 @@ ghost use Rattle.listing.specs.Marks.{marked};
 use crate::Listing;
 use stat::Stat;
 
-impl<T: Copy, const CAP: usize> Listing<T, CAP> {
+impl<T: Copy> Listing<T> {
     // None yet; the entries of the table hold a filler.
     pub fn empty(filler: T) -> Self
         ensures { listed result ≡ [] }
     {
         Listing {
-            items: [filler; CAP],
+            items: [filler; 9],
             len: 0,
         }
     }
@@ -39,12 +39,12 @@ impl<T: Copy, const CAP: usize> Listing<T, CAP> {
         self.as_slice().get(place).copied()
     }
 
-    // One more, last; nothing where the table is full.
+    // One more, last; nothing where nine are listed.
     pub fn push(&mut self, entry: T)
-        ensures { listed self.new ≡ (if nat_lt (length (listed self.old)) CAP then listed self.old ++ (entry ∷ []) else listed self.old) }
+        ensures { listed self.new ≡ (if nat_lt (length (listed self.old)) 9 then listed self.old ++ (entry ∷ []) else listed self.old) }
     {
         let at = self.len;
-        if at < CAP {
+        if at < 9 {
             let slot = &mut self.items[at];
             *slot = entry;
             self.len = at + 1;
@@ -52,7 +52,7 @@ impl<T: Copy, const CAP: usize> Listing<T, CAP> {
     }
 }
 
-impl Listing<Stat, 9> {
+impl Listing<Stat> {
     // Only those that are marked, by number; they keep their order. Marks, and no closure, which would have to be required to be
     // callable.
     pub fn retain(&mut self, keep: &[bool; 9])

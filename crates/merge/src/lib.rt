@@ -1,5 +1,5 @@
 #![tactic(auto)]
-// Merging the statistics of two disjoint parts into those of the whole.
+// Merging the statistics of two disjoint parts into those of the whole. Clauses take the column by its parts: a set names none.
 ghost use Rattle.std.specs.Prelude.{◌≡◌, Bool, true, false};
 ghost use Rattle.statement.specs.declared.StatValue.TheVariants.{Flag};
 ghost use Rattle.statement.specs.Kinds.{flag_claim, element_claim};

@@ -1,5 +1,6 @@
 #![tactic(auto)]
-// Questions about rows: which match, and whether a zone can be passed over by what is claimed of it.
+// Questions about rows: which match, and whether a zone can be passed over by what is claimed of it. Clauses take the column by
+// its parts: a set names none.
 ghost use Rattle.std.specs.Prelude.{◌≡◌, Bool, List, Option as Maybe};
 ghost use Rattle.statement.specs.declared.Statement.{Statement as Said};
 ghost use Rattle.rules.specs.Column.{column};

@@ -20,7 +20,7 @@ pub mod text;
 #[derive(Copy)]
 pub struct StatsSet<E, S> {
     claims: Claims<E, S>,
-    order: Listing<Stat, 9>,
+    order: Listing<Stat>,
     // no statistic is listed twice
     ghost once: { distinct (listed order) ≡ true },
     // those are listed of which there is a claim

@@ -1,4 +1,5 @@
-// What can be done with a set. Its meaning is the list of its entries, in the order of first setting.
+// What can be done with a set. Its meaning is the list of its entries, in the order of first setting. Clauses take the column by
+// its parts: a set names none.
 ghost use Rattle.std.specs.Prelude.{◌≡◌, true, false, not, List, [], ◌∷◌, ◌++◌, length, IfOk, if◌then◌else◌, None as Nothing, filter, ◌==◌, nat_lt};
 ghost use Rattle.std.specs.List.{slice_get};
 ghost use Rattle.stat.specs.declared.Stat.{Stat as Statistic};
@@ -91,7 +92,7 @@ impl<E: Element> StatsSet<E, E::Sum> {
     }
 
     // The order with a statistic, last if there is no claim of it.
-    fn order_with(&self, stat: Stat) -> Listing<Stat, 9>
+    fn order_with(&self, stat: Stat) -> Listing<Stat>
         ensures { listed result ≡ (if is_absent (claim_in self.now.claims stat) then (if nat_lt (length (listed self.now.order)) 9 then listed self.now.order ++ (stat ∷ []) else listed self.now.order) else listed self.now.order) }
     {
         let mut order = self.order;
@@ -140,7 +141,7 @@ impl<E: Element> StatsSet<E, E::Sum> {
     }
 
     // The statistics of the entries, in order.
-    pub(crate) fn shown(&self) -> Listing<Stat, 9>
+    pub(crate) fn shown(&self) -> Listing<Stat>
         ensures { listed result ≡ filter (counts E.Element.sums.has_sums) (listed self.now.order) }
     {
         let mut order = self.order;

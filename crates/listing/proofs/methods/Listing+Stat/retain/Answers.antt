@@ -3,8 +3,8 @@ use Rattle.stat.specs.declared.Stat.TheVariants.{IsConstant}
 use Rattle.listing.specs.Listed.{listed}
 use Rattle.listing.specs.Marks.{marked}
 use Rattle.listing.proofs.Listings.{listed_few, pushed_kept, passed_over}
-use Rattle.listing.proofs.methods.Listing+Stat+9.retain.Goals as goal
-use Rattle.listing.proofs.methods.Listing+Stat+9.retain.Goals.{then-keep-number, else-keep-number}
+use Rattle.listing.proofs.methods.Listing+Stat.retain.Goals as goal
+use Rattle.listing.proofs.methods.Listing+Stat.retain.Goals.{then-keep-number, else-keep-number}
 
 pub loop-stat-preserved : goal.loop-stat-preserved
 loop-stat-preserved c =
