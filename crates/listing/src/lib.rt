@@ -1,6 +1,6 @@
 #![tactic(auto)]
 // A list of at most nine: a table of nine entries, of which the first `len` are in use.
-ghost use Rattle.std.specs.Prelude.{◌≡◌, ◌≤◌, ◌<◌, ℕ, slice_index_or};
+ghost use Rattle.std.specs.Prelude.{◌≡◌, ◌≤◌, ◌<◌, ℕ, length, slice_index_or};
 ghost use Rattle.listing.specs.Tables.{AtEach};
 
 use std::alloc::AllocError;
@@ -20,7 +20,7 @@ pub struct Listing<T> {
 // By hand, since it is not derived for a type with both a parameter and a ghost field; and entry by entry, since the clone of a
 // table is known not to fail only where an iterator over it fits in memory.
 impl<T: Clone> Clone for Listing<T> {
-    ghost is_clone = { λ x y. AtEach T.is_clone x.items y.items × (y.len ≡ x.len) };
+    ghost is_clone = { λ x y. AtEach T.is_clone x.items y.items × (length y.items ≡ length x.items) × (y.len ≡ x.len) × (((a b : T) → T.is_clone a b → b ≡ a) → y ≡ x) };
 
     ghost is_infallible = { λ x. (i : ℕ) (d : T) → i < 9 → T.is_infallible (slice_index_or x.items i d) };
 
