@@ -1,5 +1,5 @@
 -- A listing whose entries are clones of another's, where a clone is the same value: it is the same listing.
-use Rattle.std.proofs.Common.{◌≡◌, ℕ, zero, suc, ◌+◌, ◌<◌, ◌≤◌, List, [], ◌∷◌, length, get_or, sym, refl, ap, ◌∙◌, subst, arith, ext_get_or}
+use Rattle.std.proofs.Common.{◌≡◌, ℕ, zero, suc, ◌<◌, ◌≤◌, List, [], ◌∷◌, length, get_or, sym, refl, ap, ◌∙◌, subst, arith, ext_get_or}
 use Rattle.std.proofs.Math.Bridge.{le_prop}
 use Rattle.listing.specs.declared.Listing.{Listing}
 use Rattle.listing.specs.Tables.{AtEach}
